@@ -1,0 +1,28 @@
+// Document 01's numbers for declined calls, and the test behind 7.
+ghost use mathlib.Core.Path.{_≡_};
+ghost use Rattle.console.specs.Reached.{unreached};
+use crate::Cgb;
+
+// A lent slice of another length.
+pub const LENGTH: u8 = 2;
+// An address that is not in the call's map.
+pub const ADDRESS: u8 = 4;
+// A state that no run leaves.
+pub const STATE: u8 = 7;
+
+impl Cgb {
+    // Refusal 7: one of its six tests holds.
+    pub fn unreached(self) -> bool
+        ensures { λ r. ⌜ r ≡ unreached self ⌝ }
+    {
+        let c = self.vram_dma.cursor;
+        let mode = c.mode;
+        let idle = mode.is_idle();
+        (c.quota > 2)
+            | (self.vram_dma.block.remaining > 16)
+            | (c.remaining > 2048)
+            | (self.svbk > 7)
+            | (self.vram.selected > 1)
+            | ((c.remaining == 0) & !idle)
+    }
+}

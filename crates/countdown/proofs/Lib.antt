@@ -1,0 +1,3 @@
+pub mod Tests
+pub mod Choice
+pub mod Counts

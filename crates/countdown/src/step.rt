@@ -1,0 +1,23 @@
+// The Rust's saturating steps. Subtraction of naturals stops at 0, so each contract is the plain difference.
+ghost use mathlib.Core.Path.{_≡_};
+ghost use Prim.Native.Nat.{_-_, _<_};
+ghost use Rattle.countdown.specs.Countdown.{Widened};
+
+pub fn less_one(n: u8) -> u8
+    ensures { λ r. ⌜ r ≡ n - 1 ⌝ }
+{
+    if n > 0 { n - 1 } else { 0 }
+}
+
+pub fn saturating_sub16(a: u16, b: u16) -> u16
+    ensures { λ r. ⌜ r ≡ a - b ⌝ }
+{
+    if a > b { a - b } else { 0 }
+}
+
+// A byte as a wider number, with the bound that a plain cast of a field would lose.
+pub fn wide(x: u8) -> u16
+    ensures { λ r. ⌜ Widened x r ⌝ }
+{
+    x as u16
+}
