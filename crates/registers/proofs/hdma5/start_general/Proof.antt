@@ -1,0 +1,11 @@
+-- `start_general` meets its contract. Assumes nothing.
+use Rattle.registers.specs.Hdma5.{startedOf}
+use Rattle.registers.proofs.hdma5.start_general.Statement.{statement}
+use Rattle.registers.proofs.hdma5.start_general.Tie as tie
+
+returns : tie.Need-returns
+unfolding startedOf
+returns c = simp (c .pace .ensures)
+
+pub start-general-spec : {M : Type 1} → statement M
+start-general-spec = tie.close (tie.spec (λ _ _. tt) returns)

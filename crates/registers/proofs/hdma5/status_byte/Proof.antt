@@ -1,0 +1,21 @@
+-- `status_byte` meets its contract. Assumes nothing.
+use Rattle.registers.specs.Hdma5.{statusByte}
+use borrow.Author.Needs.{needs}
+use Rattle.registers.proofs.hdma5.status_byte.Statement.{statement}
+use Rattle.registers.proofs.hdma5.status_byte.Tie as tie
+
+add-low : tie.Need-add-low
+add-low c = search needs
+
+cast-low : tie.Need-cast-low
+cast-low c = search needs
+
+add-pick8 : tie.Need-add-pick8
+add-pick8 c = search needs
+
+returns : tie.Need-returns
+unfolding statusByte
+returns c = simp (c .pick8 .ensures, c .before .is-hblank .ensures, c .before .before .saturating-sub16 .ensures, c .before .before .before .wide .ensures .same)
+
+pub status-byte-spec : {M : Type 1} → statement M
+status-byte-spec = tie.close (tie.spec (λ _ _. tt) (λ _ _. tt) (λ _ _. tt) add-low cast-low add-pick8 (λ _ _. tt) returns)

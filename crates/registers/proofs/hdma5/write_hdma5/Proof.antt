@@ -1,0 +1,27 @@
+-- `write_hdma5` meets its contract: each of the three is reached by its tests. Assumes nothing.
+use Rattle.registers.specs.Hdma5.{hdma5Written}
+use borrow.Author.Tests.{le-leb, lt-leb}
+use borrow.Author.Needs.{needs}
+use Rattle.registers.proofs.hdma5.write_hdma5.Statement.{statement}
+use Rattle.registers.proofs.hdma5.write_hdma5.Tie as tie
+
+add-length : tie.Need-add-length
+add-length c = search needs
+
+mul-length : tie.Need-mul-length
+mul-length c = search needs
+
+returns : tie.Need-returns
+unfolding hdma5Written
+returns c = rw (c .arm .ensures, le-leb _ _ (c .before .if1 .taken), c .before .before .clear-grant-marks .ensures, c .before .before .before .before .before .before .wide .ensures .same)
+
+returns-2 : tie.Need-returns-2
+unfolding hdma5Written
+returns-2 c = rw (c .cancel .ensures, lt-leb _ _ (c .before .before .if1 .left), ← c .before .before .before .before .before .is-hblank .ensures, c .before .if2 .taken, c .before .before .before .clear-grant-marks .ensures, c .before .before .before .before .before .before .before .wide .ensures .same)
+
+returns-3 : tie.Need-returns-3
+unfolding hdma5Written
+returns-3 c = rw (c .start-general .ensures, lt-leb _ _ (c .before .before .if1 .left), ← c .before .before .before .before .before .is-hblank .ensures, c .before .if2 .left, c .before .before .before .clear-grant-marks .ensures, c .before .before .before .before .before .before .before .wide .ensures .same)
+
+pub write-hdma5-spec : {M : Type 1} → statement M
+write-hdma5-spec = tie.close (tie.spec (λ _ _. tt) add-length mul-length (λ _ _. tt) (λ _ _. tt) (λ _ _. tt) returns (λ _ _. tt) returns-2 (λ _ _. tt) returns-3)

@@ -1,0 +1,5 @@
+pub mod Pointers
+pub mod Hdma5
+pub mod Map
+pub mod Read
+pub mod Write

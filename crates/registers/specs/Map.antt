@@ -1,0 +1,93 @@
+-- The address map (document 01, section 1: "The register map is a choice by address"): which place an address names.
+use Prim.Native.Nat.{ℕ, _+_, _-_, _*_, _/_, _%_}
+use mathlib.Core.Bool.{Bool, true, false, cond, _&&_}
+use lib.Dec.{leb, eqb}
+
+-- a place of the map; the first three carry an offset
+pub data Place : Type 0 where
+  workRam bankedRam extraOam : ℕ → Place
+  KEY0 KEY1 VBK HDMA1 HDMA2 HDMA3 HDMA4 HDMA5 SVBK FF72 FF73 FF74 FF75 : Place
+  unmapped : Place
+
+-- "D000h up in bank FF70 (0 means 1)"
+abbrev pub wramBank : ℕ → ℕ
+wramBank svbk = cond (eqb svbk 0) 1 svbk
+
+abbrev pub bankedIndex : ℕ → ℕ → ℕ
+bankedIndex svbk i = wramBank svbk * 4096 + i
+
+-- "FEA0–FEFF is 24 bytes, index ((address / 32) mod 8 − 5) × 8 + address mod 8"
+abbrev pub extraOamIndex : ℕ → ℕ
+extraOamIndex a = (a / 32 % 8 - 5) * 8 + a % 8
+
+abbrev pub within : ℕ → ℕ → ℕ → Bool
+within low high a = leb low a && leb a high
+
+abbrev pub registerOf : ℕ → Place
+registerOf a =
+    cond (eqb a 0xFF4C) KEY0
+    (cond (eqb a 0xFF4D) KEY1
+    (cond (eqb a 0xFF4F) VBK
+    (cond (eqb a 0xFF51) HDMA1
+    (cond (eqb a 0xFF52) HDMA2
+    (cond (eqb a 0xFF53) HDMA3
+    (cond (eqb a 0xFF54) HDMA4
+    (cond (eqb a 0xFF55) HDMA5
+    (cond (eqb a 0xFF70) SVBK
+    (cond (eqb a 0xFF72) FF72
+    (cond (eqb a 0xFF73) FF73
+    (cond (eqb a 0xFF74) FF74
+    (cond (eqb a 0xFF75) FF75 unmapped))))))))))))
+
+-- "WRAM answers at C000h–FDFFh, E000h up repeating C000h up"
+unfoldable pub placeOf : ℕ → Place
+placeOf a =
+    cond (within 0xC000 0xCFFF a) (workRam (a - 0xC000))
+    (cond (within 0xD000 0xDFFF a) (bankedRam (a - 0xD000))
+    (cond (within 0xE000 0xEFFF a) (workRam (a - 0xE000))
+    (cond (within 0xF000 0xFDFF a) (bankedRam (a - 0xF000))
+    (cond (within 0xFEA0 0xFEFF a) (extraOam (extraOamIndex a))
+    (registerOf a)))))
+
+-- what refusal 4 asks: "address not in the call's map"; FF68 to FF6C are in no call's map
+abbrev pub isMapped : Place → Bool
+isMapped (workRam i) = true
+isMapped (bankedRam i) = true
+isMapped (extraOam i) = true
+isMapped KEY0 = true
+isMapped KEY1 = true
+isMapped VBK = true
+isMapped HDMA1 = true
+isMapped HDMA2 = true
+isMapped HDMA3 = true
+isMapped HDMA4 = true
+isMapped HDMA5 = true
+isMapped SVBK = true
+isMapped FF72 = true
+isMapped FF73 = true
+isMapped FF74 = true
+isMapped FF75 = true
+isMapped unmapped = false
+
+-- "Under compat, writes to FF4D, FF51–FF55, FF70 and FF74 are accepted and do nothing"
+abbrev pub locks : Place → Bool
+locks (workRam i) = false
+locks (bankedRam i) = false
+locks (extraOam i) = false
+locks KEY0 = false
+locks KEY1 = true
+locks VBK = false
+locks HDMA1 = true
+locks HDMA2 = true
+locks HDMA3 = true
+locks HDMA4 = true
+locks HDMA5 = true
+locks SVBK = true
+locks FF72 = false
+locks FF73 = false
+locks FF74 = true
+locks FF75 = false
+locks unmapped = false
+
+unfoldable pub locksAt : ℕ → Bool
+locksAt a = locks (placeOf a)
