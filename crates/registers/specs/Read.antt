@@ -4,7 +4,7 @@ use mathlib.Core.Bool.{Bool, cond}
 use mathlib.Core.List.{List}
 use lib.ListN.{getD}
 use Rattle.console.specs.declared.Cgb.{Cgb}
-use Rattle.registers.specs.Hdma5.{statusByte}
+use Rattle.hdma.specs.Hdma5.{statusByte}
 use Rattle.registers.specs.Map.{Place, workRam, bankedRam, extraOam, KEY0, KEY1, VBK, HDMA1, HDMA2, HDMA3, HDMA4, HDMA5, SVBK, FF72, FF73, FF74, FF75, unmapped, bankedIndex, placeOf, isMapped}
 use Rattle.registers.specs.declared.MapRead.{MapRead}
 use Rattle.registers.specs.declared.MapRead.the-variants.{Byte, Unmapped}

@@ -7,8 +7,8 @@ use lib.Dec.{eqb}
 use lib.ListN.{set}
 use Rattle.console.specs.Set.{withCursorSource, withCursorDest, withDmaCursor, withVramDma, withSvbk, withKey1Armed, withVram, withVramSelected, withFf72, withFf73, withFf74, withFf75, withExtraOam}
 use Rattle.console.specs.declared.Cgb.{Cgb}
-use Rattle.registers.specs.Pointers.{withHigh, withLow}
-use Rattle.registers.specs.Hdma5.{hdma5Written}
+use Rattle.hdma.specs.Pointers.{withHigh, withLow}
+use Rattle.hdma.specs.Hdma5.{hdma5Written}
 use Rattle.registers.specs.Map.{Place, workRam, bankedRam, extraOam, KEY0, KEY1, VBK, HDMA1, HDMA2, HDMA3, HDMA4, HDMA5, SVBK, FF72, FF73, FF74, FF75, unmapped, bankedIndex, placeOf, isMapped, locks, locksAt}
 use Rattle.registers.specs.declared.MapWritten.{MapWritten}
 use Rattle.registers.specs.declared.WriteInput.{WriteInput}

@@ -1,6 +1,4 @@
 // The address map (registers.rs): a choice by address, for reads and for writes.
-pub mod hdma5;
-pub mod pointer;
 pub mod wram;
 
 ghost use mathlib.Core.Path.{_≡_};
@@ -10,6 +8,8 @@ ghost use Rattle.registers.specs.Map.{locksAt};
 ghost use Rattle.registers.specs.Write.{storedOf, mapWriteOf, wramAfter, Wrote};
 use console::Cgb;
 use countdown::pick::pick8;
+use hdma::hdma5;
+use hdma::pointer;
 use memory::byte_at;
 use memory::put_at;
 

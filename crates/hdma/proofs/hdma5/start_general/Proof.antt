@@ -1,7 +1,7 @@
 -- `start_general` meets its contract. Assumes nothing.
-use Rattle.registers.specs.Hdma5.{startedOf}
-use Rattle.registers.proofs.hdma5.start_general.Statement.{statement}
-use Rattle.registers.proofs.hdma5.start_general.Tie as tie
+use Rattle.hdma.specs.Hdma5.{startedOf}
+use Rattle.hdma.proofs.hdma5.start_general.Statement.{statement}
+use Rattle.hdma.proofs.hdma5.start_general.Tie as tie
 
 returns : tie.Need-returns
 unfolding startedOf

@@ -1,9 +1,9 @@
 -- `write_hdma5` meets its contract: each of the three is reached by its tests. Assumes nothing.
-use Rattle.registers.specs.Hdma5.{hdma5Written}
+use Rattle.hdma.specs.Hdma5.{hdma5Written}
 use borrow.Author.Tests.{le-leb, lt-leb}
 use borrow.Author.Needs.{needs}
-use Rattle.registers.proofs.hdma5.write_hdma5.Statement.{statement}
-use Rattle.registers.proofs.hdma5.write_hdma5.Tie as tie
+use Rattle.hdma.proofs.hdma5.write_hdma5.Statement.{statement}
+use Rattle.hdma.proofs.hdma5.write_hdma5.Tie as tie
 
 add-length : tie.Need-add-length
 add-length c = search needs

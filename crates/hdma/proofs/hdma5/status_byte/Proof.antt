@@ -1,8 +1,8 @@
 -- `status_byte` meets its contract. Assumes nothing.
-use Rattle.registers.specs.Hdma5.{statusByte}
+use Rattle.hdma.specs.Hdma5.{statusByte}
 use borrow.Author.Needs.{needs}
-use Rattle.registers.proofs.hdma5.status_byte.Statement.{statement}
-use Rattle.registers.proofs.hdma5.status_byte.Tie as tie
+use Rattle.hdma.proofs.hdma5.status_byte.Statement.{statement}
+use Rattle.hdma.proofs.hdma5.status_byte.Tie as tie
 
 add-low : tie.Need-add-low
 add-low c = search needs

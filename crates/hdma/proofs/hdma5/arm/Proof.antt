@@ -1,7 +1,7 @@
 -- `arm` meets its contract: with the LCD off the block is latched over the armed state. Assumes nothing.
-use Rattle.registers.specs.Hdma5.{armedOf}
-use Rattle.registers.proofs.hdma5.arm.Statement.{statement}
-use Rattle.registers.proofs.hdma5.arm.Tie as tie
+use Rattle.hdma.specs.Hdma5.{armedOf}
+use Rattle.hdma.proofs.hdma5.arm.Statement.{statement}
+use Rattle.hdma.proofs.hdma5.arm.Tie as tie
 
 returns : tie.Need-returns
 unfolding armedOf

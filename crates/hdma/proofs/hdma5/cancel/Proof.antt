@@ -1,7 +1,7 @@
 -- `cancel` meets its contract. Assumes nothing.
-use Rattle.registers.specs.Hdma5.{cancelledOf}
-use Rattle.registers.proofs.hdma5.cancel.Statement.{statement}
-use Rattle.registers.proofs.hdma5.cancel.Tie as tie
+use Rattle.hdma.specs.Hdma5.{cancelledOf}
+use Rattle.hdma.proofs.hdma5.cancel.Statement.{statement}
+use Rattle.hdma.proofs.hdma5.cancel.Tie as tie
 
 returns : tie.Need-returns
 unfolding cancelledOf

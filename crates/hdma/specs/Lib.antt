@@ -1,0 +1,2 @@
+pub mod Pointers
+pub mod Hdma5
