@@ -2,3 +2,4 @@ pub mod Ranges
 pub mod Places
 pub mod Locks
 pub mod Key1
+pub mod Mapped

@@ -6,7 +6,7 @@ use mathlib.Core.Bool.{Bool, true, false, cond, _&&_, false≢true}
 use mathlib.Core.List.{List, [], _∷_}
 use lib.Dec.{eqb}
 use borrow.Author.Tests.{ne-eqb}
-use Rattle.registers.specs.Map.{Place, workRam, bankedRam, extraOam, KEY0, KEY1, VBK, HDMA1, HDMA2, HDMA3, HDMA4, HDMA5, SVBK, FF72, FF73, FF74, FF75, unmapped, within, extraOamIndex, placeOf, locks, locksAt, isMapped}
+use Rattle.registers.specs.Map.{KEY0, VBK, FF72, FF73, FF75, Place, workRam, bankedRam, extraOam, register, unmapped, within, extraOamIndex, placeOf, locks, locksAt, isMapped}
 use Rattle.console.specs.declared.Cgb.{Cgb}
 use Rattle.registers.specs.Write.{wramAt, wramAfter}
 use Rattle.registers.proofs.Places.{NoneOf}
@@ -18,7 +18,7 @@ locked = 0xFF74 ∷ 0xFF70 ∷ 0xFF55 ∷ 0xFF54 ∷ 0xFF53 ∷ 0xFF52 ∷ 0xFF5
 -- whichever of the other places is named
 free :
     (b0 b1 b2 b3 b4 b5 b6 b7 b8 b9 : Bool) (i0 i1 i2 i3 i4 : ℕ) →
-    locks (cond b0 (workRam i0) (cond b1 (bankedRam i1) (cond b2 (workRam i2) (cond b3 (bankedRam i3) (cond b4 (extraOam i4) (cond b5 KEY0 (cond b6 VBK (cond b7 FF72 (cond b8 FF73 (cond b9 FF75 unmapped)))))))))) ≡ false
+    locks (cond b0 (workRam i0) (cond b1 (bankedRam i1) (cond b2 (workRam i2) (cond b3 (bankedRam i3) (cond b4 (extraOam i4) (cond b5 (register KEY0) (cond b6 (register VBK) (cond b7 (register FF72) (cond b8 (register FF73) (cond b9 (register FF75) unmapped)))))))))) ≡ false
 free true b1 b2 b3 b4 b5 b6 b7 b8 b9 i0 i1 i2 i3 i4 = refl
 free false true b2 b3 b4 b5 b6 b7 b8 b9 i0 i1 i2 i3 i4 = refl
 free false false true b3 b4 b5 b6 b7 b8 b9 i0 i1 i2 i3 i4 = refl
@@ -52,19 +52,7 @@ locked-mapped : (p : Place) → locks p ≡ true → isMapped p ≡ true
 locked-mapped (workRam i) h = refl
 locked-mapped (bankedRam i) h = refl
 locked-mapped (extraOam i) h = refl
-locked-mapped KEY0 h = refl
-locked-mapped KEY1 h = refl
-locked-mapped VBK h = refl
-locked-mapped HDMA1 h = refl
-locked-mapped HDMA2 h = refl
-locked-mapped HDMA3 h = refl
-locked-mapped HDMA4 h = refl
-locked-mapped HDMA5 h = refl
-locked-mapped SVBK h = refl
-locked-mapped FF72 h = refl
-locked-mapped FF73 h = refl
-locked-mapped FF74 h = refl
-locked-mapped FF75 h = refl
+locked-mapped (register r) h = refl
 locked-mapped unmapped h = absurd (false≢true h)
 
 pub lock-is-mapped : (a : ℕ) → locksAt a ≡ true → isMapped (placeOf a) ≡ true
@@ -75,19 +63,7 @@ locked-register : (s : Cgb) (wram : List ℕ) (v : ℕ) (p : Place) → locks p 
 locked-register s wram v (workRam i) h = absurd (false≢true h)
 locked-register s wram v (bankedRam i) h = absurd (false≢true h)
 locked-register s wram v (extraOam i) h = refl
-locked-register s wram v KEY0 h = refl
-locked-register s wram v KEY1 h = refl
-locked-register s wram v VBK h = refl
-locked-register s wram v HDMA1 h = refl
-locked-register s wram v HDMA2 h = refl
-locked-register s wram v HDMA3 h = refl
-locked-register s wram v HDMA4 h = refl
-locked-register s wram v HDMA5 h = refl
-locked-register s wram v SVBK h = refl
-locked-register s wram v FF72 h = refl
-locked-register s wram v FF73 h = refl
-locked-register s wram v FF74 h = refl
-locked-register s wram v FF75 h = refl
+locked-register s wram v (register r) h = refl
 locked-register s wram v unmapped h = refl
 
 pub lock-keeps-wram : (s : Cgb) (wram : List ℕ) (v a : ℕ) → locksAt a ≡ true → wram ≡ wramAfter s wram v a

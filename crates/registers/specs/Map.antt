@@ -3,10 +3,14 @@ use Prim.Native.Nat.{ℕ, _+_, _-_, _*_, _/_, _%_}
 use mathlib.Core.Bool.{Bool, true, false, cond, _&&_}
 use lib.Dec.{leb, eqb}
 
--- a place of the map; the first three carry an offset
+-- the registers that an address of their own names
+pub data Register : Type 0 where
+  KEY0 KEY1 VBK HDMA1 HDMA2 HDMA3 HDMA4 HDMA5 SVBK FF72 FF73 FF74 FF75 : Register
+
+-- a place of the map; memory carries an offset
 pub data Place : Type 0 where
   workRam bankedRam extraOam : ℕ → Place
-  KEY0 KEY1 VBK HDMA1 HDMA2 HDMA3 HDMA4 HDMA5 SVBK FF72 FF73 FF74 FF75 : Place
+  register : Register → Place
   unmapped : Place
 
 -- "D000h up in bank FF70 (0 means 1)"
@@ -25,19 +29,19 @@ within low high a = leb low a && leb a high
 
 abbrev pub registerOf : ℕ → Place
 registerOf a =
-    cond (eqb a 0xFF4C) KEY0
-    (cond (eqb a 0xFF4D) KEY1
-    (cond (eqb a 0xFF4F) VBK
-    (cond (eqb a 0xFF51) HDMA1
-    (cond (eqb a 0xFF52) HDMA2
-    (cond (eqb a 0xFF53) HDMA3
-    (cond (eqb a 0xFF54) HDMA4
-    (cond (eqb a 0xFF55) HDMA5
-    (cond (eqb a 0xFF70) SVBK
-    (cond (eqb a 0xFF72) FF72
-    (cond (eqb a 0xFF73) FF73
-    (cond (eqb a 0xFF74) FF74
-    (cond (eqb a 0xFF75) FF75 unmapped))))))))))))
+    cond (eqb a 0xFF4C) (register KEY0)
+    (cond (eqb a 0xFF4D) (register KEY1)
+    (cond (eqb a 0xFF4F) (register VBK)
+    (cond (eqb a 0xFF51) (register HDMA1)
+    (cond (eqb a 0xFF52) (register HDMA2)
+    (cond (eqb a 0xFF53) (register HDMA3)
+    (cond (eqb a 0xFF54) (register HDMA4)
+    (cond (eqb a 0xFF55) (register HDMA5)
+    (cond (eqb a 0xFF70) (register SVBK)
+    (cond (eqb a 0xFF72) (register FF72)
+    (cond (eqb a 0xFF73) (register FF73)
+    (cond (eqb a 0xFF74) (register FF74)
+    (cond (eqb a 0xFF75) (register FF75) unmapped))))))))))))
 
 -- "WRAM answers at C000h–FDFFh, E000h up repeating C000h up"
 unfoldable pub placeOf : ℕ → Place
@@ -54,39 +58,30 @@ abbrev pub isMapped : Place → Bool
 isMapped (workRam i) = true
 isMapped (bankedRam i) = true
 isMapped (extraOam i) = true
-isMapped KEY0 = true
-isMapped KEY1 = true
-isMapped VBK = true
-isMapped HDMA1 = true
-isMapped HDMA2 = true
-isMapped HDMA3 = true
-isMapped HDMA4 = true
-isMapped HDMA5 = true
-isMapped SVBK = true
-isMapped FF72 = true
-isMapped FF73 = true
-isMapped FF74 = true
-isMapped FF75 = true
+isMapped (register r) = true
 isMapped unmapped = false
 
 -- "Under compat, writes to FF4D, FF51–FF55, FF70 and FF74 are accepted and do nothing"
+abbrev pub locksRegister : Register → Bool
+locksRegister KEY0 = false
+locksRegister KEY1 = true
+locksRegister VBK = false
+locksRegister HDMA1 = true
+locksRegister HDMA2 = true
+locksRegister HDMA3 = true
+locksRegister HDMA4 = true
+locksRegister HDMA5 = true
+locksRegister SVBK = true
+locksRegister FF72 = false
+locksRegister FF73 = false
+locksRegister FF74 = true
+locksRegister FF75 = false
+
 abbrev pub locks : Place → Bool
 locks (workRam i) = false
 locks (bankedRam i) = false
 locks (extraOam i) = false
-locks KEY0 = false
-locks KEY1 = true
-locks VBK = false
-locks HDMA1 = true
-locks HDMA2 = true
-locks HDMA3 = true
-locks HDMA4 = true
-locks HDMA5 = true
-locks SVBK = true
-locks FF72 = false
-locks FF73 = false
-locks FF74 = true
-locks FF75 = false
+locks (register r) = locksRegister r
 locks unmapped = false
 
 unfoldable pub locksAt : ℕ → Bool

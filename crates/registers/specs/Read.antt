@@ -5,7 +5,7 @@ use mathlib.Core.List.{List}
 use lib.ListN.{getD}
 use Rattle.console.specs.declared.Cgb.{Cgb}
 use Rattle.hdma.specs.Hdma5.{statusByte}
-use Rattle.registers.specs.Map.{Place, workRam, bankedRam, extraOam, KEY0, KEY1, VBK, HDMA1, HDMA2, HDMA3, HDMA4, HDMA5, SVBK, FF72, FF73, FF74, FF75, unmapped, bankedIndex, placeOf, isMapped}
+use Rattle.registers.specs.Map.{Register, KEY0, KEY1, VBK, HDMA1, HDMA2, HDMA3, HDMA4, HDMA5, SVBK, FF72, FF73, FF74, FF75, Place, workRam, bankedRam, extraOam, register, unmapped, bankedIndex, placeOf, isMapped}
 use Rattle.registers.specs.declared.MapRead.{MapRead}
 use Rattle.registers.specs.declared.MapRead.the-variants.{Byte, Unmapped}
 
@@ -17,24 +17,28 @@ key1Byte double armed = 0x7E + 128 * cond double 1 0 + cond armed 1 0
 abbrev pub lockedByte : Cgb → ℕ → ℕ
 lockedByte s byte = cond (s .«dmg_compat») 0xFF byte
 
--- the byte at each place; bits that a register lacks read 1, and HDMA1 to HDMA4 are write-only
+-- the byte of each register; bits that a register lacks read 1, and HDMA1 to HDMA4 are write-only
+abbrev pub registerByte : Cgb → Register → ℕ
+registerByte s KEY0 = lockedByte s 0x00
+registerByte s KEY1 = lockedByte s (key1Byte (s .«double_speed») (s .«key1_armed»))
+registerByte s VBK = 0xFE + s .vram .selected % 2
+registerByte s HDMA1 = 0xFF
+registerByte s HDMA2 = 0xFF
+registerByte s HDMA3 = 0xFF
+registerByte s HDMA4 = 0xFF
+registerByte s HDMA5 = statusByte (s .«vram_dma»)
+registerByte s SVBK = lockedByte s (0xF8 + s .svbk % 8)
+registerByte s FF72 = s .ff72
+registerByte s FF73 = s .ff73
+registerByte s FF74 = lockedByte s (s .ff74)
+registerByte s FF75 = 0x8F + s .ff75 / 16 % 8 * 16
+
+-- the byte at each place
 abbrev pub byteAt : Cgb → List ℕ → Place → ℕ
 byteAt s wram (workRam i) = getD wram i 0
 byteAt s wram (bankedRam i) = getD wram (bankedIndex (s .svbk) i) 0
 byteAt s wram (extraOam i) = getD (s .«extra_oam») i 0
-byteAt s wram KEY0 = lockedByte s 0x00
-byteAt s wram KEY1 = lockedByte s (key1Byte (s .«double_speed») (s .«key1_armed»))
-byteAt s wram VBK = 0xFE + s .vram .selected % 2
-byteAt s wram HDMA1 = 0xFF
-byteAt s wram HDMA2 = 0xFF
-byteAt s wram HDMA3 = 0xFF
-byteAt s wram HDMA4 = 0xFF
-byteAt s wram HDMA5 = statusByte (s .«vram_dma»)
-byteAt s wram SVBK = lockedByte s (0xF8 + s .svbk % 8)
-byteAt s wram FF72 = s .ff72
-byteAt s wram FF73 = s .ff73
-byteAt s wram FF74 = lockedByte s (s .ff74)
-byteAt s wram FF75 = 0x8F + s .ff75 / 16 % 8 * 16
+byteAt s wram (register r) = registerByte s r
 byteAt s wram unmapped = 0
 
 unfoldable pub mapReadOf : Cgb → List ℕ → ℕ → MapRead

@@ -9,7 +9,7 @@ use Rattle.console.specs.Set.{withCursorSource, withCursorDest, withDmaCursor, 
 use Rattle.console.specs.declared.Cgb.{Cgb}
 use Rattle.hdma.specs.Pointers.{withHigh, withLow}
 use Rattle.hdma.specs.Hdma5.{hdma5Written}
-use Rattle.registers.specs.Map.{Place, workRam, bankedRam, extraOam, KEY0, KEY1, VBK, HDMA1, HDMA2, HDMA3, HDMA4, HDMA5, SVBK, FF72, FF73, FF74, FF75, unmapped, bankedIndex, placeOf, isMapped, locks, locksAt}
+use Rattle.registers.specs.Map.{Register, KEY0, KEY1, VBK, HDMA1, HDMA2, HDMA3, HDMA4, HDMA5, SVBK, FF72, FF73, FF74, FF75, Place, workRam, bankedRam, extraOam, register, unmapped, bankedIndex, placeOf, isMapped, locks, locksAt}
 use Rattle.registers.specs.declared.MapWritten.{MapWritten}
 use Rattle.registers.specs.declared.WriteInput.{WriteInput}
 
@@ -19,24 +19,28 @@ withSource x s = withVramDma (withDmaCursor (withCursorSource x (s .«vram_dma»
 abbrev pub withDest : ℕ → Cgb → Cgb
 withDest x s = withVramDma (withDmaCursor (withCursorDest x (s .«vram_dma» .cursor)) (s .«vram_dma»)) s
 
+-- the state after a write to each register
+abbrev pub registerWritten : Cgb → WriteInput → Register → Cgb
+registerWritten s w KEY0 = s
+registerWritten s w KEY1 = withKey1Armed (eqb (w .value % 2) 1) s
+registerWritten s w VBK = withVram (withVramSelected (w .value % 2) (s .vram)) s
+registerWritten s w HDMA1 = withSource (withHigh (w .value) (s .«vram_dma» .cursor .source)) s
+registerWritten s w HDMA2 = withSource (withLow (w .value) (s .«vram_dma» .cursor .source)) s
+registerWritten s w HDMA3 = withDest (withHigh (w .value) (s .«vram_dma» .cursor .dest)) s
+registerWritten s w HDMA4 = withDest (withLow (w .value) (s .«vram_dma» .cursor .dest)) s
+registerWritten s w HDMA5 = withVramDma (hdma5Written (w .value) (w .«lcd_on») (s .«vram_dma»)) s
+registerWritten s w SVBK = withSvbk (w .value % 8) s
+registerWritten s w FF72 = withFf72 (w .value) s
+registerWritten s w FF73 = withFf73 (w .value) s
+registerWritten s w FF74 = withFf74 (w .value) s
+registerWritten s w FF75 = withFf75 (w .value / 16 % 8 * 16) s
+
 -- the state after a write to each place, where nothing is locked
 abbrev pub stateAt : Cgb → WriteInput → Place → Cgb
 stateAt s w (workRam i) = s
 stateAt s w (bankedRam i) = s
 stateAt s w (extraOam i) = withExtraOam (set (s .«extra_oam») i (w .value)) s
-stateAt s w KEY0 = s
-stateAt s w KEY1 = withKey1Armed (eqb (w .value % 2) 1) s
-stateAt s w VBK = withVram (withVramSelected (w .value % 2) (s .vram)) s
-stateAt s w HDMA1 = withSource (withHigh (w .value) (s .«vram_dma» .cursor .source)) s
-stateAt s w HDMA2 = withSource (withLow (w .value) (s .«vram_dma» .cursor .source)) s
-stateAt s w HDMA3 = withDest (withHigh (w .value) (s .«vram_dma» .cursor .dest)) s
-stateAt s w HDMA4 = withDest (withLow (w .value) (s .«vram_dma» .cursor .dest)) s
-stateAt s w HDMA5 = withVramDma (hdma5Written (w .value) (w .«lcd_on») (s .«vram_dma»)) s
-stateAt s w SVBK = withSvbk (w .value % 8) s
-stateAt s w FF72 = withFf72 (w .value) s
-stateAt s w FF73 = withFf73 (w .value) s
-stateAt s w FF74 = withFf74 (w .value) s
-stateAt s w FF75 = withFf75 (w .value / 16 % 8 * 16) s
+stateAt s w (register r) = registerWritten s w r
 stateAt s w unmapped = s
 
 -- work RAM after a write of v to each place
@@ -44,19 +48,7 @@ abbrev pub wramAt : Cgb → List ℕ → ℕ → Place → List ℕ
 wramAt s wram v (workRam i) = set wram i v
 wramAt s wram v (bankedRam i) = set wram (bankedIndex (s .svbk) i) v
 wramAt s wram v (extraOam i) = wram
-wramAt s wram v KEY0 = wram
-wramAt s wram v KEY1 = wram
-wramAt s wram v VBK = wram
-wramAt s wram v HDMA1 = wram
-wramAt s wram v HDMA2 = wram
-wramAt s wram v HDMA3 = wram
-wramAt s wram v HDMA4 = wram
-wramAt s wram v HDMA5 = wram
-wramAt s wram v SVBK = wram
-wramAt s wram v FF72 = wram
-wramAt s wram v FF73 = wram
-wramAt s wram v FF74 = wram
-wramAt s wram v FF75 = wram
+wramAt s wram v (register r) = wram
 wramAt s wram v unmapped = wram
 
 -- a write where nothing is locked: whether the address is mapped, and the state

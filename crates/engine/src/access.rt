@@ -1,0 +1,70 @@
+// Register and WRAM reads and writes (lib.rs, `map_read`, `map_write`). The slice is work RAM, and
+// its length is tested for every address.
+ghost use mathlib.Core.Path.{_≡_};
+ghost use Rattle.engine.specs.Access.{readOf, Wrote};
+use console::Cgb;
+use console::refusal;
+use registers::MapRead;
+use registers::WriteInput;
+
+// A byte, or the number that the call is declined with.
+pub enum ByteAnswer {
+    Byte(u8),
+    Refused(u8),
+}
+
+// Done, or the number that the call is declined with.
+pub enum DoneAnswer {
+    Done,
+    Refused(u8),
+}
+
+pub struct Written {
+    pub answer: DoneAnswer,
+    pub state: Cgb,
+}
+
+pub fn read(state: Cgb, wram: &[u8], address: u16) -> ByteAnswer
+    ensures { λ r. ⌜ r ≡ readOf state (now (wram .entry)) address ⌝ }
+{
+    if state.unreached() {
+        return ByteAnswer::Refused(refusal::STATE);
+    }
+    if wram.len() != memory::WRAM {
+        return ByteAnswer::Refused(refusal::LENGTH);
+    }
+    let found = registers::map_read_byte(state, wram, address);
+    let MapRead::Byte(byte) = found else {
+        return ByteAnswer::Refused(refusal::ADDRESS);
+    };
+    ByteAnswer::Byte(byte)
+}
+
+pub fn write(state: Cgb, wram: &mut [u8], address: u16, input: WriteInput) -> Written
+    ensures { λ r. ⌜ Wrote state input address (now (wram .entry)) r (now (wram .exit)) ⌝ }
+{
+    if state.unreached() {
+        return Written {
+            answer: DoneAnswer::Refused(refusal::STATE),
+            state: state,
+        };
+    }
+    if wram.len() != memory::WRAM {
+        return Written {
+            answer: DoneAnswer::Refused(refusal::LENGTH),
+            state: state,
+        };
+    }
+    let written = registers::map_write_byte(state, wram, address, input);
+    if written.mapped {
+        let next = written.state;
+        return Written {
+            answer: DoneAnswer::Done,
+            state: next,
+        };
+    }
+    Written {
+        answer: DoneAnswer::Refused(refusal::ADDRESS),
+        state: state,
+    }
+}

@@ -1,0 +1,16 @@
+// The public calls: power-on, and each call of document 01 that takes the engine's state. Each call
+// tests 7 and its own refusals in the paper's order, hands back what it was given where it declines,
+// and leaves the work to one function of a lower room.
+pub mod access;
+pub mod query;
+
+ghost use mathlib.Core.Path.{_≡_};
+ghost use Rattle.console.specs.PowerOn.{powerOnOf};
+use console::Cgb;
+
+// The state that a run starts from, with or without DMG compatibility.
+pub fn power_on(dmg_compat: bool) -> Cgb
+    ensures { λ r. ⌜ r ≡ powerOnOf «dmg_compat» ⌝ }
+{
+    console::power_on::power_on(dmg_compat)
+}

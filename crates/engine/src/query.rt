@@ -1,0 +1,176 @@
+// What is asked of the state and changes nothing (lib.rs, the queries of `Cgb` and `Model`; the
+// tally is document 01's own). Each tests 7.
+ghost use mathlib.Core.Path.{_≡_};
+ghost use Rattle.engine.specs.Query.{tallyOf, statusOf, claimOf, flagOf, byteOf};
+ghost use Rattle.transfer.specs.Questions.{requestStanding, holdsCpu, seizesBus};
+ghost use Rattle.speed_switch.specs.Speed.{stepsPerDot, blackoutActive, dividerActive};
+ghost use Rattle.registers.specs.Map.{wramBank};
+use crate::access::ByteAnswer;
+use console::Cgb;
+use console::refusal;
+use transfer::VramDmaStatus;
+
+// The engine's pointers, what is left, and whether an escape is owed.
+pub enum TallyAnswer {
+    Tally {
+        source: u16,
+        dest: u16,
+        remaining: u16,
+        escape_byte: bool,
+    },
+    Refused(u8),
+}
+
+pub enum StatusAnswer {
+    Status(VramDmaStatus),
+    Refused(u8),
+}
+
+pub enum FlagAnswer {
+    Flag(bool),
+    Refused(u8),
+}
+
+pub enum ClaimAnswer {
+    Claim { committed: bool, standing: bool },
+    Refused(u8),
+}
+
+pub fn tally(state: Cgb) -> TallyAnswer
+    ensures { λ r. ⌜ r ≡ tallyOf state ⌝ }
+{
+    if state.unreached() {
+        return TallyAnswer::Refused(refusal::STATE);
+    }
+    let c = state.vram_dma.cursor;
+    TallyAnswer::Tally {
+        source: c.source,
+        dest: c.dest,
+        remaining: c.remaining,
+        escape_byte: c.escape_byte,
+    }
+}
+
+pub fn vram_dma_status(state: Cgb) -> StatusAnswer
+    ensures { λ r. ⌜ r ≡ statusOf state ⌝ }
+{
+    if state.unreached() {
+        return StatusAnswer::Refused(refusal::STATE);
+    }
+    let d = state.vram_dma;
+    let status = transfer::status(d);
+    StatusAnswer::Status(status)
+}
+
+// The claim of the last commit.
+pub fn vram_dma_claim(state: Cgb) -> ClaimAnswer
+    ensures { λ r. ⌜ r ≡ claimOf state ⌝ }
+{
+    if state.unreached() {
+        return ClaimAnswer::Refused(refusal::STATE);
+    }
+    ClaimAnswer::Claim {
+        committed: state.console_state.vram_dma_claim.committed,
+        standing: state.console_state.vram_dma_claim.standing,
+    }
+}
+
+// The block waits for the instruction in flight to retire.
+pub fn vram_dma_park_waits_for_fetch(state: Cgb) -> FlagAnswer
+    ensures { λ r. ⌜ r ≡ flagOf state (state .«vram_dma» .arb .«park_waits_for_fetch») ⌝ }
+{
+    if state.unreached() {
+        return FlagAnswer::Refused(refusal::STATE);
+    }
+    FlagAnswer::Flag(state.vram_dma.arb.park_waits_for_fetch)
+}
+
+pub fn vram_dma_request_standing(state: Cgb) -> FlagAnswer
+    ensures { λ r. ⌜ r ≡ flagOf state (requestStanding (state .«vram_dma»)) ⌝ }
+{
+    if state.unreached() {
+        return FlagAnswer::Refused(refusal::STATE);
+    }
+    let d = state.vram_dma;
+    FlagAnswer::Flag(transfer::request_standing(d))
+}
+
+pub fn vram_dma_holds_cpu(state: Cgb) -> FlagAnswer
+    ensures { λ r. ⌜ r ≡ flagOf state (holdsCpu (state .«vram_dma»)) ⌝ }
+{
+    if state.unreached() {
+        return FlagAnswer::Refused(refusal::STATE);
+    }
+    let d = state.vram_dma;
+    FlagAnswer::Flag(transfer::holds_cpu(d))
+}
+
+pub fn vram_dma_seizes_bus(state: Cgb) -> FlagAnswer
+    ensures { λ r. ⌜ r ≡ flagOf state (seizesBus (state .«vram_dma»)) ⌝ }
+{
+    if state.unreached() {
+        return FlagAnswer::Refused(refusal::STATE);
+    }
+    let d = state.vram_dma;
+    FlagAnswer::Flag(transfer::seizes_bus(d))
+}
+
+// A blackout is running.
+pub fn speed_switch_in_progress(state: Cgb) -> FlagAnswer
+    ensures { λ r. ⌜ r ≡ flagOf state (blackoutActive (state .«speed_switch_blackout»)) ⌝ }
+{
+    if state.unreached() {
+        return FlagAnswer::Refused(refusal::STATE);
+    }
+    FlagAnswer::Flag(speed_switch::blackout_active(state.speed_switch_blackout))
+}
+
+pub fn speed_switch_divider_active(state: Cgb) -> FlagAnswer
+    ensures { λ r. ⌜ r ≡ flagOf state (dividerActive (state .«double_speed») (state .«speed_switch_blackout»)) ⌝ }
+{
+    if state.unreached() {
+        return FlagAnswer::Refused(refusal::STATE);
+    }
+    FlagAnswer::Flag(speed_switch::blackout_divider_active(
+        state.double_speed,
+        state.speed_switch_blackout,
+    ))
+}
+
+pub fn double_speed(state: Cgb) -> FlagAnswer
+    ensures { λ r. ⌜ r ≡ flagOf state (state .«double_speed») ⌝ }
+{
+    if state.unreached() {
+        return FlagAnswer::Refused(refusal::STATE);
+    }
+    FlagAnswer::Flag(state.double_speed)
+}
+
+pub fn cpu_steps_per_dot(state: Cgb) -> ByteAnswer
+    ensures { λ r. ⌜ r ≡ byteOf state (stepsPerDot (state .«double_speed»)) ⌝ }
+{
+    if state.unreached() {
+        return ByteAnswer::Refused(refusal::STATE);
+    }
+    ByteAnswer::Byte(speed_switch::steps_per_dot(state.double_speed))
+}
+
+// The bank at D000 to DFFF.
+pub fn wram_bank(state: Cgb) -> ByteAnswer
+    ensures { λ r. ⌜ r ≡ byteOf state (wramBank (state .svbk)) ⌝ }
+{
+    if state.unreached() {
+        return ByteAnswer::Refused(refusal::STATE);
+    }
+    ByteAnswer::Byte(registers::wram::wram_bank(state.svbk))
+}
+
+// SVBK as written.
+pub fn svbk_register(state: Cgb) -> ByteAnswer
+    ensures { λ r. ⌜ r ≡ byteOf state (state .svbk) ⌝ }
+{
+    if state.unreached() {
+        return ByteAnswer::Refused(refusal::STATE);
+    }
+    ByteAnswer::Byte(state.svbk)
+}
