@@ -1,5 +1,6 @@
 -- FF55 (document 01, section 1), written and read.
-use Prim.Native.Nat.{ℕ, _+_, _-_, _*_, _/_, _%_}
+use Prim.Native.Nat.{ℕ, _+_, _-_, _*_, _/_, _%_, _<_}
+use mathlib.Core.Path.{_≡_}
 use mathlib.Core.Bool.{Bool, true, false, cond, _&&_}
 use lib.Dec.{ltb, leb}
 use Rattle.console.specs.Modes.{isHBlank}
@@ -60,3 +61,11 @@ lowBits d = (visible d % 128 + 127) % 128
 
 unfoldable pub statusByte : VramDma → ℕ
 statusByte d = cond (active d) (lowBits d) (128 + lowBits d)
+
+-- what is shown of the reading, for every state: bit 7 is clear exactly if armed and visible > 0, the low bits are
+-- (visible − 1) mod 128, and it is a byte
+pub record Reading (d : VramDma) : Type 0 where
+  pub clear : statusByte d / 128 ≡ 0 → (isHBlank (d .cursor .mode) ≡ true) × (0 < visible d)
+  pub only : isHBlank (d .cursor .mode) ≡ true → 0 < visible d → statusByte d / 128 ≡ 0
+  pub low : statusByte d % 128 ≡ (visible d + 127) % 128
+  pub byte : statusByte d < 256

@@ -1,0 +1,198 @@
+-- The port agrees with Pan Docs where specs/Agreement says so, and differs where it says so. Assumes nothing.
+use Prim.Native.Nat.{ℕ, _+_, _-_, _*_, _/_, _%_, _<_, _≤_}
+use native.Mathlib.Omega.{arith}
+use mathlib.Core.Path.{_≡_, refl, ap, sym, _∙_}
+use mathlib.Core.Bool.{Bool, true, false, cond, and-false}
+use mathlib.Core.List.{List}
+use lib.ListN as list
+use lib.Dec.{ltb, leb}
+use borrow.Author.Tests.{lt-ltb, le-ltb}
+use Rattle.console.specs.Modes.{isHBlank}
+use Rattle.console.specs.PowerOn.{powerOnOf, dmaAtRest}
+use Rattle.console.specs.Reached.{unreached, Reached}
+use Rattle.console.specs.declared.Cgb.{Cgb}
+use Rattle.console.specs.declared.vram_dma.TransferMode.{TransferMode}
+use Rattle.console.specs.declared.vram_dma.TransferMode.the-variants as mode
+use Rattle.console.specs.Set.{withFf72, withFf73, withFf74, withFf75, withSvbk}
+use Rattle.console.proofs.Reached.{reached, passes}
+use Rattle.hdma.specs.Hdma5.{hdma5Written, armedOf, cancelledOf, startedOf, statusByte, visible, active}
+use Rattle.transfer.specs.Latch.{latchedOf}
+use Rattle.transfer.specs.Questions.{writeAddress}
+use Rattle.registers.specs.Map.{placeOf, isMapped, bankedRam, locksAt}
+use Rattle.registers.specs.Map as port
+use Rattle.registers.specs.Read.{byteAt}
+use Rattle.registers.specs.Write.{stateAt, withSource, withDest, mapWriteOf, storedOf}
+use Rattle.registers.specs.declared.WriteInput.{WriteInput}
+use Rattle.hdma.proofs.Written.{keeps, arms, starts}
+use Rattle.registers.proofs.Places.{at-d}
+use Rattle.engine.specs.Access.{readOf, writeOf, accessRefusal}
+use Rattle.engine.specs.declared.access.ByteAnswer.the-variants.{Byte}
+use Rattle.engine.proofs.Accepted.{read-accepted, write-unlocked}
+use Rattle.pan_docs.specs.PanDocs as pan
+use Rattle.pan_docs.specs.Agreement.{CgbMode, Whole, after, Reads, Agreement, Difference}
+use Rattle.pan_docs.proofs.Bits as bits
+
+abbrev input : ℕ → Bool → WriteInput
+input v lcd = record { value = v; «lcd_on» = lcd }
+
+module _ (s : Cgb) (m : CgbMode s) where
+  -- in CGB mode an accepted write leaves what the map says
+  written : (a v : ℕ) (lcd : Bool) → isMapped (placeOf a) ≡ true → after a v lcd s ≡ stateAt s (input v lcd) (placeOf a)
+  written a v lcd mapped = write-unlocked s (m .reached) a mapped (input v lcd) (m .unlocked)
+
+  key1-reads : Reads s 0xFF4D (pan.key1 (s .«double_speed») (s .«key1_armed»))
+  unfolding placeOf
+  key1-reads wram whole =
+      read-accepted s (m .reached) 0xFF4D refl wram whole ∙ rw (m .unlocked, bits.key1)
+
+  key1-arms :
+      (v : ℕ) (lcd : Bool) →
+      (pan.bitOf (after 0xFF4D v lcd s .«key1_armed») ≡ pan.bit 0 v) × (after 0xFF4D v lcd s .«double_speed» ≡ s .«double_speed»)
+  unfolding placeOf
+  key1-arms v lcd = rw (written 0xFF4D v lcd refl) (bits.flag v, refl)
+
+  vbk-selects : (v : ℕ) (lcd : Bool) → after 0xFF4F v lcd s .vram .selected ≡ pan.bit 0 v
+  unfolding placeOf
+  vbk-selects v lcd = rw (written 0xFF4F v lcd refl) (omega arith)
+
+  vbk-reads : Reads s 0xFF4F (pan.vbk (s .vram .selected))
+  unfolding placeOf
+  vbk-reads wram whole =
+      read-accepted s (m .reached) 0xFF4F refl wram whole ∙ rw (bits.vbk (s .vram .selected) (reached s (m .reached) .bank))
+
+  -- a pointer's write keeps what CGB mode asks
+  source-mode : (x : ℕ) → CgbMode (withSource x s)
+  unfolding unreached
+  source-mode x = record { reached = m .reached; unlocked = m .unlocked }
+
+  dest-mode : (x : ℕ) → CgbMode (withDest x s)
+  unfolding unreached
+  dest-mode x = record { reached = m .reached; unlocked = m .unlocked }
+
+  dma : (v : ℕ) (lcd : Bool) → after 0xFF55 v lcd s .«vram_dma» ≡ hdma5Written v lcd (s .«vram_dma»)
+  unfolding placeOf
+  dma v lcd = rw (written 0xFF55 v lcd refl)
+
+  length-set : (v : ℕ) (lcd : Bool) → after 0xFF55 v lcd s .«vram_dma» .cursor .remaining ≡ pan.length v
+  length-set v lcd = rw (dma v lcd, keeps v lcd (s .«vram_dma») .left) (bits.length v)
+
+  hblank-starts : (v : ℕ) (lcd : Bool) → v < 256 → pan.bit 7 v ≡ 1 → after 0xFF55 v lcd s .«vram_dma» .cursor .mode ≡ mode.HBlank
+  hblank-starts v lcd h e = rw (dma v lcd) (arms v lcd (s .«vram_dma») (bits.bit7-set v h e))
+
+  general-starts :
+      (v : ℕ) (lcd : Bool) → v < 256 → pan.bit 7 v ≡ 0 → s .«vram_dma» .cursor .mode ≡ mode.Idle →
+      after 0xFF55 v lcd s .«vram_dma» .cursor .mode ≡ mode.General
+  general-starts v lcd h e idle =
+      rw (dma v lcd) (starts v lcd (s .«vram_dma») (bits.bit7-clear v h e) (ap isHBlank idle))
+
+  status-reads : Reads s 0xFF55 (statusByte (s .«vram_dma»))
+  unfolding placeOf
+  status-reads wram whole = read-accepted s (m .reached) 0xFF55 refl wram whole
+
+  svbk-selects : (v : ℕ) (lcd : Bool) → port.wramBank (after 0xFF70 v lcd s .svbk) ≡ pan.wramBank v
+  unfolding placeOf
+  svbk-selects v lcd = rw (written 0xFF70 v lcd refl)
+
+module _ (s : Cgb) (m : CgbMode s) (high low : ℕ) (lcd : Bool) (h : low < 256) where
+  source-set : after 0xFF52 low lcd (after 0xFF51 high lcd s) .«vram_dma» .cursor .source ≡ pan.source high low
+  unfolding placeOf
+  source-set =
+      rw (written s m 0xFF51 high lcd refl, written (withSource _ s) (source-mode s m _) 0xFF52 low lcd refl)
+      (bits.source high low (s .«vram_dma» .cursor .source) h)
+
+  destination-set :
+      writeAddress (after 0xFF54 low lcd (after 0xFF53 high lcd s) .«vram_dma» .cursor) ≡ pan.destination high low
+  unfolding placeOf
+  destination-set =
+      rw (written s m 0xFF53 high lcd refl, written (withDest _ s) (dest-mode s m _) 0xFF54 low lcd refl)
+      (bits.destination high low (s .«vram_dma» .cursor .dest) h)
+
+module _ (s : Cgb) (m : CgbMode s) where
+  running-reads :
+      (remaining : ℕ) → s .«vram_dma» .cursor .mode ≡ mode.HBlank → s .«vram_dma» .arb .«granted_ahead» ≡ 0 →
+      s .«vram_dma» .cursor .remaining ≡ 16 * remaining → 0 < remaining → remaining ≤ 128 → Reads s 0xFF55 (pan.running remaining)
+  unfolding statusByte
+  running-reads n armed granted left some few wram whole =
+      let seen : visible (s .«vram_dma») ≡ n = omega arith in
+      status-reads s m wram whole ∙
+      rw (seen, ap isHBlank armed, lt-ltb 0 n some) (ap Byte (bits.running n some few))
+
+  complete-reads : s .«vram_dma» .cursor .remaining ≡ 0 → Reads s 0xFF55 pan.complete
+  unfolding statusByte
+  complete-reads none wram whole =
+      let seen : visible (s .«vram_dma») ≡ 0 = omega arith in
+      status-reads s m wram whole ∙ rw (seen, and-false)
+
+module _ (s : Cgb) (m : CgbMode s) (v : ℕ) (lcd : Bool) where
+  -- a bank of three bits passes 7
+  banked-reached : unreached (withSvbk (v % 8) s) ≡ false
+  banked-reached =
+      let r : Reached s = reached s (m .reached) in
+      passes (withSvbk (v % 8) s)
+      (record { quota = r .quota; block = r .block; left = r .left; svbk = omega arith; bank = r .bank; idle = r .idle })
+
+  banked-reads :
+      (i : ℕ) (wram : List ℕ) → Whole wram → i < 4096 →
+      readOf (after 0xFF70 v lcd s) wram (0xD000 + i) ≡ Byte (list.getD wram (pan.wramBank v * 4096 + i) 0)
+  unfolding placeOf
+  banked-reads i wram whole h =
+      rw (written s m 0xFF70 v lcd refl)
+      (let place : placeOf (0xD000 + i) ≡ bankedRam i =
+      at-d (0xD000 + i) (omega arith) (omega arith) ∙ ap bankedRam (let e : 0xD000 + i - 0xD000 ≡ i = omega arith in e) in
+      read-accepted (withSvbk (v % 8) s) banked-reached (0xD000 + i) (ap isMapped place) wram whole ∙ rw place)
+
+  ff72-reads : Reads (after 0xFF72 v lcd s) 0xFF72 v
+  unfolding placeOf unreached
+  ff72-reads wram whole = rw (written s m 0xFF72 v lcd refl) (read-accepted (withFf72 v s) (m .reached) 0xFF72 refl wram whole)
+
+  ff73-reads : Reads (after 0xFF73 v lcd s) 0xFF73 v
+  unfolding placeOf unreached
+  ff73-reads wram whole = rw (written s m 0xFF73 v lcd refl) (read-accepted (withFf73 v s) (m .reached) 0xFF73 refl wram whole)
+
+  ff74-reads : Reads (after 0xFF74 v lcd s) 0xFF74 v
+  unfolding placeOf unreached
+  ff74-reads wram whole =
+      rw (written s m 0xFF74 v lcd refl) (read-accepted (withFf74 v s) (m .reached) 0xFF74 refl wram whole ∙ rw (m .unlocked))
+
+  ff75-reads : Reads (after 0xFF75 v lcd s) 0xFF75 (pan.ff75 v)
+  unfolding placeOf unreached
+  ff75-reads wram whole =
+      rw (written s m 0xFF75 v lcd refl)
+      (read-accepted (withFf75 (v / 16 % 8 * 16) s) (m .reached) 0xFF75 refl wram whole ∙ ap Byte (bits.ff75 v))
+
+ff74-locked : (s : Cgb) → unreached s ≡ false → s .«dmg_compat» ≡ true → Reads s 0xFF74 0xFF
+unfolding placeOf
+ff74-locked s r compat wram whole = read-accepted s r 0xFF74 refl wram whole ∙ rw compat
+
+pub agreement : Agreement
+agreement =
+    record {
+      key1-reads = key1-reads;
+      key1-arms = λ s v lcd m. key1-arms s m v lcd;
+      vbk-selects = λ s v lcd m. vbk-selects s m v lcd;
+      vbk-reads = vbk-reads;
+      source-set = λ s high low lcd m h. source-set s m high low lcd h;
+      destination-set = λ s high low lcd m h. destination-set s m high low lcd h;
+      length-set = λ s v lcd m. length-set s m v lcd;
+      hblank-starts = λ s v lcd m. hblank-starts s m v lcd;
+      general-starts = λ s v lcd m. general-starts s m v lcd;
+      running-reads = λ s n m. running-reads s m n;
+      complete-reads = complete-reads;
+      svbk-selects = λ s v lcd m. svbk-selects s m v lcd;
+      banked-reads = λ s v i lcd wram m. banked-reads s m v lcd i wram;
+      ff72-reads = λ s v lcd m. ff72-reads s m v lcd;
+      ff73-reads = λ s v lcd m. ff73-reads s m v lcd;
+      ff74-reads = λ s v lcd m. ff74-reads s m v lcd;
+      ff75-reads = λ s v lcd m. ff75-reads s m v lcd;
+      ff74-locked = ff74-locked;
+      time = bits.time;
+    }
+
+pub difference : Difference
+unfolding readOf writeOf accessRefusal unreached placeOf mapWriteOf storedOf locksAt hdma5Written armedOf cancelledOf startedOf statusByte powerOnOf dmaAtRest
+difference =
+    record {
+      cancel-stores = (λ wram whole. rw whole, refl);
+      destination-kept = refl;
+      general-seen = λ wram whole. rw whole;
+    }

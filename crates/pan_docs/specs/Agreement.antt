@@ -1,0 +1,96 @@
+-- Where the port's calls agree with Pan Docs, a field for each of its facts; where they do not, the smallest run that shows
+-- it (docs/DIFFERENCES.md). The calls are the engine's, on any state that passes refusal 7, in CGB mode.
+use Prim.Native.Nat.{ℕ, _+_, _*_, _<_, _≤_}
+use mathlib.Core.Path.{_≡_}
+use mathlib.Core.Bool.{Bool, true, false}
+use mathlib.Core.List.{List}
+use lib.ListN as list
+use Rattle.console.specs.PowerOn.{powerOnOf}
+use Rattle.console.specs.Reached.{unreached}
+use Rattle.console.specs.declared.Cgb.{Cgb}
+use Rattle.console.specs.declared.vram_dma.TransferMode.the-variants as mode
+use Rattle.memory.specs.Lengths.{wramLength}
+use Rattle.transfer.specs.Questions.{writeAddress}
+use Rattle.estimate.specs.Estimate.{estimateOf}
+use Rattle.engine.specs.Access.{readOf, writeOf}
+use Rattle.engine.specs.declared.access.ByteAnswer.the-variants.{Byte}
+use Rattle.registers.specs.Map as port
+use Rattle.pan_docs.specs.PanDocs as pan
+
+pub record CgbMode (s : Cgb) : Type 0 where
+  pub reached : unreached s ≡ false
+  pub unlocked : s .«dmg_compat» ≡ false
+
+-- work RAM of the length that is asked for
+abbrev pub Whole : List ℕ → Type 0
+Whole wram = list.length wram ≡ wramLength
+
+-- the state after a write of v, with the LCD on or off
+abbrev pub after : ℕ → ℕ → Bool → Cgb → Cgb
+after a v lcd s = writeOf s (record { value = v; «lcd_on» = lcd }) a wramLength .state
+
+-- a read of an address gives a byte, whatever work RAM holds
+abbrev pub Reads : Cgb → ℕ → ℕ → Type 0
+Reads s a v = (wram : List ℕ) → Whole wram → readOf s wram a ≡ Byte v
+
+pub record Agreement : Type 0 where
+  -- KEY1 reads the speed in bit 7 and the arming in bit 0
+  pub key1-reads : (s : Cgb) → CgbMode s → Reads s 0xFF4D (pan.key1 (s .«double_speed») (s .«key1_armed»))
+  -- bit 0 written to KEY1 arms the switch, and bit 7 is read-only
+  pub key1-arms :
+      (s : Cgb) (v : ℕ) (lcd : Bool) → CgbMode s →
+      (pan.bitOf (after 0xFF4D v lcd s .«key1_armed») ≡ pan.bit 0 v) × (after 0xFF4D v lcd s .«double_speed» ≡ s .«double_speed»)
+  -- VBK selects by bit 0, and reads it back
+  pub vbk-selects : (s : Cgb) (v : ℕ) (lcd : Bool) → CgbMode s → after 0xFF4F v lcd s .vram .selected ≡ pan.bit 0 v
+  pub vbk-reads : (s : Cgb) → CgbMode s → Reads s 0xFF4F (pan.vbk (s .vram .selected))
+  -- FF51 and FF52, in this order, set the source
+  pub source-set :
+      (s : Cgb) (high low : ℕ) (lcd : Bool) → CgbMode s → low < 256 →
+      after 0xFF52 low lcd (after 0xFF51 high lcd s) .«vram_dma» .cursor .source ≡ pan.source high low
+  -- FF53 and FF54, in this order, set where the next byte lands
+  pub destination-set :
+      (s : Cgb) (high low : ℕ) (lcd : Bool) → CgbMode s → low < 256 →
+      writeAddress (after 0xFF54 low lcd (after 0xFF53 high lcd s) .«vram_dma» .cursor) ≡ pan.destination high low
+  -- FF55 sets the length
+  pub length-set :
+      (s : Cgb) (v : ℕ) (lcd : Bool) → CgbMode s → after 0xFF55 v lcd s .«vram_dma» .cursor .remaining ≡ pan.length v
+  -- bit 7 set starts an HBlank transfer; clear, where none runs, a General one
+  pub hblank-starts :
+      (s : Cgb) (v : ℕ) (lcd : Bool) → CgbMode s → v < 256 → pan.bit 7 v ≡ 1 →
+      after 0xFF55 v lcd s .«vram_dma» .cursor .mode ≡ mode.HBlank
+  pub general-starts :
+      (s : Cgb) (v : ℕ) (lcd : Bool) → CgbMode s → v < 256 → pan.bit 7 v ≡ 0 →
+      s .«vram_dma» .cursor .mode ≡ mode.Idle → after 0xFF55 v lcd s .«vram_dma» .cursor .mode ≡ mode.General
+  -- FF55 reads the blocks that remain − 1 while an HBlank transfer runs and no block is under way
+  pub running-reads :
+      (s : Cgb) (remaining : ℕ) → CgbMode s → s .«vram_dma» .cursor .mode ≡ mode.HBlank →
+      s .«vram_dma» .arb .«granted_ahead» ≡ 0 → s .«vram_dma» .cursor .remaining ≡ 16 * remaining → 0 < remaining → remaining ≤ 128 →
+      Reads s 0xFF55 (pan.running remaining)
+  -- and FF where nothing is left
+  pub complete-reads : (s : Cgb) → CgbMode s → s .«vram_dma» .cursor .remaining ≡ 0 → Reads s 0xFF55 pan.complete
+  -- SVBK selects the bank at D000 to DFFF
+  pub svbk-selects :
+      (s : Cgb) (v : ℕ) (lcd : Bool) → CgbMode s → port.wramBank (after 0xFF70 v lcd s .svbk) ≡ pan.wramBank v
+  pub banked-reads :
+      (s : Cgb) (v i : ℕ) (lcd : Bool) (wram : List ℕ) → CgbMode s → Whole wram → i < 4096 →
+      readOf (after 0xFF70 v lcd s) wram (0xD000 + i) ≡ Byte (list.getD wram (pan.wramBank v * 4096 + i) 0)
+  -- FF72, FF73 and FF74 read what was written; FF75 its bits 4 to 6
+  pub ff72-reads : (s : Cgb) (v : ℕ) (lcd : Bool) → CgbMode s → Reads (after 0xFF72 v lcd s) 0xFF72 v
+  pub ff73-reads : (s : Cgb) (v : ℕ) (lcd : Bool) → CgbMode s → Reads (after 0xFF73 v lcd s) 0xFF73 v
+  pub ff74-reads : (s : Cgb) (v : ℕ) (lcd : Bool) → CgbMode s → Reads (after 0xFF74 v lcd s) 0xFF74 v
+  pub ff75-reads : (s : Cgb) (v : ℕ) (lcd : Bool) → CgbMode s → Reads (after 0xFF75 v lcd s) 0xFF75 (pan.ff75 v)
+  -- outside CGB mode FF74 is locked and reads FF
+  pub ff74-locked : (s : Cgb) → unreached s ≡ false → s .«dmg_compat» ≡ true → Reads s 0xFF74 0xFF
+  -- a block of a General transfer takes 8 M-cycles
+  pub time : (v : ℕ) → estimateOf v ≡ pan.mcycles v
+
+-- where the port follows the Rust and not Pan Docs
+pub record Difference : Type 0 where
+  -- a cancel stores the written length: 83 armed and cancelled by 00 reads 80, where Pan Docs has 83 (four blocks remained)
+  pub cancel-stores :
+      Reads (after 0xFF55 0x00 true (after 0xFF55 0x83 true (powerOnOf false))) 0xFF55 0x80 × (pan.cancelled 4 ≡ 0x83)
+  -- the destination keeps all 16 bits: FFF0h is stored whole, where Pan Docs keeps bits 12 to 4
+  pub destination-kept :
+      after 0xFF54 0xF0 true (after 0xFF53 0xFF true (powerOnOf false)) .«vram_dma» .cursor .dest ≡ 0xFFF0
+  -- a General transfer under way is seen as bit 7 set over its length, where Pan Docs lets nobody look
+  pub general-seen : Reads (after 0xFF55 0x03 true (powerOnOf false)) 0xFF55 0x83
