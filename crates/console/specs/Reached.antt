@@ -7,6 +7,7 @@ use mathlib.Core.List.{List, [], _∷_}
 use lib.Dec.{ltb, eqb}
 use Rattle.console.specs.Modes.{isIdle}
 use Rattle.console.specs.declared.Cgb.{Cgb}
+use Rattle.console.specs.declared.vram_dma.TransferMode.{TransferMode}
 
 -- whether one of the tests holds
 abbrev pub anyOf : List Bool → Bool
@@ -26,11 +27,17 @@ unreachedTests s =
 unfoldable pub unreached : Cgb → Bool
 unreached s = anyOf (unreachedTests s)
 
--- the same as facts: what holds of a state exactly where refusal 7 does not come
-pub record Reached (s : Cgb) : Type 0 where
-  pub quota : s .«vram_dma» .cursor .quota ≤ 2
-  pub block : s .«vram_dma» .block .remaining ≤ 16
-  pub left : s .«vram_dma» .cursor .remaining ≤ 2048
-  pub svbk : s .svbk ≤ 7
-  pub bank : s .vram .selected ≤ 1
-  pub idle : s .«vram_dma» .cursor .remaining ≡ 0 → isIdle (s .«vram_dma» .cursor .mode) ≡ true
+-- the same as facts, of the six quantities that are tested
+pub record Within (q b l v k : ℕ) (m : TransferMode) : Type 0 where
+  pub quota : q ≤ 2
+  pub block : b ≤ 16
+  pub left : l ≤ 2048
+  pub svbk : v ≤ 7
+  pub bank : k ≤ 1
+  pub idle : l ≡ 0 → isIdle m ≡ true
+
+-- what holds of a state exactly where refusal 7 does not come
+abbrev pub Reached : Cgb → Type 0
+Reached s =
+    Within (s .«vram_dma» .cursor .quota) (s .«vram_dma» .block .remaining) (s .«vram_dma» .cursor .remaining) (s .svbk)
+    (s .vram .selected) (s .«vram_dma» .cursor .mode)

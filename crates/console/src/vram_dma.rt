@@ -79,9 +79,9 @@ pub struct HblankBlock {
     pub ready_in: Countdown,
     // Falls the bus has been seized without a break.
     pub seize_falls: u8,
-    // The block launched from a write to FF55.
+    // The block committed from a pend that a write to FF55 made.
     pub from_arm: bool,
-    // Such a launch awaits its sample of mode 0.
+    // Such a block awaits its sample of mode 0.
     pub arm_ready_probation: bool,
 }
 

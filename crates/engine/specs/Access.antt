@@ -1,5 +1,5 @@
 -- Register and WRAM reads and writes (document 01, section 1). "Order: 7 first wherever a state is given; a read or
--- write 2, 4", for every address. Number, answer and next state look at no more of the slice than its length; the byte
+-- write 2, 4", for every address. The number and the next state look at no more of the slice than its length; the byte
 -- read and the slice at exit have definitions of their own.
 use Prim.Native.Nat.{ℕ}
 use mathlib.Core.Path.{_≡_}
@@ -15,6 +15,7 @@ use Rattle.registers.specs.Map.{placeOf, isMapped}
 use Rattle.registers.specs.Read.{byteAt}
 use Rattle.registers.specs.Write.{mapWriteOf, wramAfter}
 use Rattle.registers.specs.declared.WriteInput.{WriteInput}
+use Rattle.engine.specs.Answers.{Said, saying, doneSays}
 use Rattle.engine.specs.declared.access.ByteAnswer.{ByteAnswer}
 use Rattle.engine.specs.declared.access.ByteAnswer.the-variants as byte
 use Rattle.engine.specs.declared.access.DoneAnswer.{DoneAnswer}
@@ -37,6 +38,9 @@ doneAnswer number = answered number done.Refused done.Done
 unfoldable pub readOf : Cgb → List ℕ → ℕ → ByteAnswer
 readOf s wram a = byteAnswer (accessRefusal s (length wram) a) (byteAt s wram (placeOf a))
 
+unfoldable pub readSaid : Cgb → List ℕ → ℕ → Said
+readSaid s wram a = saying (accessRefusal s (length wram) a) (byteAt s wram (placeOf a) ∷ [])
+
 -- answer and next state
 unfoldable pub writeOf : Cgb → WriteInput → ℕ → ℕ → Written
 writeOf s w a n =
@@ -49,7 +53,11 @@ writeOf s w a n =
 unfoldable pub writeWram : Cgb → WriteInput → ℕ → List ℕ → List ℕ
 writeWram s w a wram = cond (eqb (accessRefusal s (length wram) a) 0) (wramAfter s wram (w .value) a) wram
 
--- a write's result and the slice at exit, whole
+unfoldable pub writeSaid : Cgb → ℕ → ℕ → Said
+writeSaid s a n = saying (accessRefusal s n a) []
+
+-- a write's result, what its answer says, and the slice at exit, whole
 pub record Wrote (s : Cgb) (w : WriteInput) (a : ℕ) (wram : List ℕ) (r : Written) (last : List ℕ) : Type 0 where
   pub result : r ≡ writeOf s w a (length wram)
+  pub says : doneSays (r .answer) ≡ writeSaid s a (length wram)
   pub memory : last ≡ writeWram s w a wram

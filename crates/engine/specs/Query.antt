@@ -8,6 +8,7 @@ use Rattle.console.specs.Refusals.{_⇒_, firstOf, answered}
 use Rattle.console.specs.declared.Cgb.{Cgb}
 use Rattle.transfer.specs.Questions as transfer
 use Rattle.engine.specs.Access.{byteAnswer}
+use Rattle.engine.specs.Answers.{Said, saying, bitOf, Answers, flagSays, byteSays, tallySays, statusSays, claimSays, modeSays}
 use Rattle.engine.specs.declared.access.ByteAnswer.{ByteAnswer}
 use Rattle.engine.specs.declared.query.ClaimAnswer.{ClaimAnswer}
 use Rattle.engine.specs.declared.query.ClaimAnswer.the-variants as claim
@@ -22,6 +23,10 @@ use Rattle.engine.specs.declared.query.TallyAnswer.the-variants as tally
 unfoldable pub queryRefusal : Cgb → ℕ
 queryRefusal s = firstOf ((unreached s ⇒ 7) ∷ [])
 
+-- what a query says that gives these values
+unfoldable pub querySaid : Cgb → List ℕ → Said
+querySaid s values = saying (queryRefusal s) values
+
 -- a query that asks for a flag, or for a byte
 unfoldable pub flagOf : Cgb → Bool → FlagAnswer
 flagOf s value = answered (queryRefusal s) flag.Refused (flag.Flag value)
@@ -33,14 +38,39 @@ byteOf s value = byteAnswer (queryRefusal s) value
 unfoldable pub tallyOf : Cgb → TallyAnswer
 tallyOf s =
     let c = s .«vram_dma» .cursor in
-    answered (queryRefusal s) tally.Refused
-    (tally.Tally (c .source) (c .dest) (c .remaining) (c .«escape_byte»))
+    answered (queryRefusal s) tally.Refused (tally.Tally (c .source) (c .dest) (c .remaining) (c .«escape_byte»))
+
+abbrev pub tallyValues : Cgb → List ℕ
+tallyValues s =
+    let c = s .«vram_dma» .cursor in c .source ∷ c .dest ∷ c .remaining ∷ bitOf (c .«escape_byte») ∷ []
 
 unfoldable pub statusOf : Cgb → StatusAnswer
 statusOf s = answered (queryRefusal s) status.Refused (status.Status (transfer.statusOf (s .«vram_dma»)))
+
+abbrev pub statusValues : Cgb → List ℕ
+statusValues s = modeSays (transfer.statusOf (s .«vram_dma»))
 
 -- "`VramDmaClaim` is two flags, committed and standing"
 unfoldable pub claimOf : Cgb → ClaimAnswer
 claimOf s =
     let c = s .«console_state» .«vram_dma_claim» in
     answered (queryRefusal s) claim.Refused (claim.Claim (c .committed) (c .standing))
+
+abbrev pub claimValues : Cgb → List ℕ
+claimValues s = let c = s .«console_state» .«vram_dma_claim» in bitOf (c .committed) ∷ bitOf (c .standing) ∷ []
+
+-- the promises of a query: its answer, and what that says
+abbrev pub AnswersFlag : Cgb → Bool → FlagAnswer → Type 0
+AnswersFlag s value = Answers flagSays (flagOf s value) (querySaid s (bitOf value ∷ []))
+
+abbrev pub AnswersByte : Cgb → ℕ → ByteAnswer → Type 0
+AnswersByte s value = Answers byteSays (byteOf s value) (querySaid s (value ∷ []))
+
+abbrev pub AnswersTally : Cgb → TallyAnswer → Type 0
+AnswersTally s = Answers tallySays (tallyOf s) (querySaid s (tallyValues s))
+
+abbrev pub AnswersStatus : Cgb → StatusAnswer → Type 0
+AnswersStatus s = Answers statusSays (statusOf s) (querySaid s (statusValues s))
+
+abbrev pub AnswersClaim : Cgb → ClaimAnswer → Type 0
+AnswersClaim s = Answers claimSays (claimOf s) (querySaid s (claimValues s))

@@ -1,7 +1,7 @@
 // Register and WRAM reads and writes (lib.rs, `map_read`, `map_write`). The slice is work RAM, and
 // its length is tested for every address.
-ghost use mathlib.Core.Path.{_≡_};
-ghost use Rattle.engine.specs.Access.{readOf, Wrote};
+ghost use Rattle.engine.specs.Access.{readOf, readSaid, Wrote};
+ghost use Rattle.engine.specs.Answers.{Answers, byteSays};
 use console::Cgb;
 use console::refusal;
 use registers::MapRead;
@@ -25,7 +25,7 @@ pub struct Written {
 }
 
 pub fn read(state: Cgb, wram: &[u8], address: u16) -> ByteAnswer
-    ensures { λ r. ⌜ r ≡ readOf state (now (wram .entry)) address ⌝ }
+    ensures { λ r. ⌜ Answers byteSays (readOf state (now (wram .entry)) address) (readSaid state (now (wram .entry)) address) r ⌝ }
 {
     if state.unreached() {
         return ByteAnswer::Refused(refusal::STATE);

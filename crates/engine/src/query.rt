@@ -1,7 +1,6 @@
 // What is asked of the state and changes nothing (lib.rs, the queries of `Cgb` and `Model`; the
 // tally is document 01's own). Each tests 7.
-ghost use mathlib.Core.Path.{_≡_};
-ghost use Rattle.engine.specs.Query.{tallyOf, statusOf, claimOf, flagOf, byteOf};
+ghost use Rattle.engine.specs.Query.{AnswersTally, AnswersStatus, AnswersClaim, AnswersFlag, AnswersByte};
 ghost use Rattle.transfer.specs.Questions.{requestStanding, holdsCpu, seizesBus};
 ghost use Rattle.speed_switch.specs.Speed.{stepsPerDot, blackoutActive, dividerActive};
 ghost use Rattle.registers.specs.Map.{wramBank};
@@ -37,7 +36,7 @@ pub enum ClaimAnswer {
 }
 
 pub fn tally(state: Cgb) -> TallyAnswer
-    ensures { λ r. ⌜ r ≡ tallyOf state ⌝ }
+    ensures { λ r. ⌜ AnswersTally state r ⌝ }
 {
     if state.unreached() {
         return TallyAnswer::Refused(refusal::STATE);
@@ -52,7 +51,7 @@ pub fn tally(state: Cgb) -> TallyAnswer
 }
 
 pub fn vram_dma_status(state: Cgb) -> StatusAnswer
-    ensures { λ r. ⌜ r ≡ statusOf state ⌝ }
+    ensures { λ r. ⌜ AnswersStatus state r ⌝ }
 {
     if state.unreached() {
         return StatusAnswer::Refused(refusal::STATE);
@@ -64,7 +63,7 @@ pub fn vram_dma_status(state: Cgb) -> StatusAnswer
 
 // The claim of the last commit.
 pub fn vram_dma_claim(state: Cgb) -> ClaimAnswer
-    ensures { λ r. ⌜ r ≡ claimOf state ⌝ }
+    ensures { λ r. ⌜ AnswersClaim state r ⌝ }
 {
     if state.unreached() {
         return ClaimAnswer::Refused(refusal::STATE);
@@ -77,7 +76,7 @@ pub fn vram_dma_claim(state: Cgb) -> ClaimAnswer
 
 // The block waits for the instruction in flight to retire.
 pub fn vram_dma_park_waits_for_fetch(state: Cgb) -> FlagAnswer
-    ensures { λ r. ⌜ r ≡ flagOf state (state .«vram_dma» .arb .«park_waits_for_fetch») ⌝ }
+    ensures { λ r. ⌜ AnswersFlag state (state .«vram_dma» .arb .«park_waits_for_fetch») r ⌝ }
 {
     if state.unreached() {
         return FlagAnswer::Refused(refusal::STATE);
@@ -86,7 +85,7 @@ pub fn vram_dma_park_waits_for_fetch(state: Cgb) -> FlagAnswer
 }
 
 pub fn vram_dma_request_standing(state: Cgb) -> FlagAnswer
-    ensures { λ r. ⌜ r ≡ flagOf state (requestStanding (state .«vram_dma»)) ⌝ }
+    ensures { λ r. ⌜ AnswersFlag state (requestStanding (state .«vram_dma»)) r ⌝ }
 {
     if state.unreached() {
         return FlagAnswer::Refused(refusal::STATE);
@@ -96,7 +95,7 @@ pub fn vram_dma_request_standing(state: Cgb) -> FlagAnswer
 }
 
 pub fn vram_dma_holds_cpu(state: Cgb) -> FlagAnswer
-    ensures { λ r. ⌜ r ≡ flagOf state (holdsCpu (state .«vram_dma»)) ⌝ }
+    ensures { λ r. ⌜ AnswersFlag state (holdsCpu (state .«vram_dma»)) r ⌝ }
 {
     if state.unreached() {
         return FlagAnswer::Refused(refusal::STATE);
@@ -106,7 +105,7 @@ pub fn vram_dma_holds_cpu(state: Cgb) -> FlagAnswer
 }
 
 pub fn vram_dma_seizes_bus(state: Cgb) -> FlagAnswer
-    ensures { λ r. ⌜ r ≡ flagOf state (seizesBus (state .«vram_dma»)) ⌝ }
+    ensures { λ r. ⌜ AnswersFlag state (seizesBus (state .«vram_dma»)) r ⌝ }
 {
     if state.unreached() {
         return FlagAnswer::Refused(refusal::STATE);
@@ -117,7 +116,7 @@ pub fn vram_dma_seizes_bus(state: Cgb) -> FlagAnswer
 
 // A blackout is running.
 pub fn speed_switch_in_progress(state: Cgb) -> FlagAnswer
-    ensures { λ r. ⌜ r ≡ flagOf state (blackoutActive (state .«speed_switch_blackout»)) ⌝ }
+    ensures { λ r. ⌜ AnswersFlag state (blackoutActive (state .«speed_switch_blackout»)) r ⌝ }
 {
     if state.unreached() {
         return FlagAnswer::Refused(refusal::STATE);
@@ -126,7 +125,7 @@ pub fn speed_switch_in_progress(state: Cgb) -> FlagAnswer
 }
 
 pub fn speed_switch_divider_active(state: Cgb) -> FlagAnswer
-    ensures { λ r. ⌜ r ≡ flagOf state (dividerActive (state .«double_speed») (state .«speed_switch_blackout»)) ⌝ }
+    ensures { λ r. ⌜ AnswersFlag state (dividerActive (state .«double_speed») (state .«speed_switch_blackout»)) r ⌝ }
 {
     if state.unreached() {
         return FlagAnswer::Refused(refusal::STATE);
@@ -138,7 +137,7 @@ pub fn speed_switch_divider_active(state: Cgb) -> FlagAnswer
 }
 
 pub fn double_speed(state: Cgb) -> FlagAnswer
-    ensures { λ r. ⌜ r ≡ flagOf state (state .«double_speed») ⌝ }
+    ensures { λ r. ⌜ AnswersFlag state (state .«double_speed») r ⌝ }
 {
     if state.unreached() {
         return FlagAnswer::Refused(refusal::STATE);
@@ -147,7 +146,7 @@ pub fn double_speed(state: Cgb) -> FlagAnswer
 }
 
 pub fn cpu_steps_per_dot(state: Cgb) -> ByteAnswer
-    ensures { λ r. ⌜ r ≡ byteOf state (stepsPerDot (state .«double_speed»)) ⌝ }
+    ensures { λ r. ⌜ AnswersByte state (stepsPerDot (state .«double_speed»)) r ⌝ }
 {
     if state.unreached() {
         return ByteAnswer::Refused(refusal::STATE);
@@ -157,7 +156,7 @@ pub fn cpu_steps_per_dot(state: Cgb) -> ByteAnswer
 
 // The bank at D000 to DFFF.
 pub fn wram_bank(state: Cgb) -> ByteAnswer
-    ensures { λ r. ⌜ r ≡ byteOf state (wramBank (state .svbk)) ⌝ }
+    ensures { λ r. ⌜ AnswersByte state (wramBank (state .svbk)) r ⌝ }
 {
     if state.unreached() {
         return ByteAnswer::Refused(refusal::STATE);
@@ -167,7 +166,7 @@ pub fn wram_bank(state: Cgb) -> ByteAnswer
 
 // SVBK as written.
 pub fn svbk_register(state: Cgb) -> ByteAnswer
-    ensures { λ r. ⌜ r ≡ byteOf state (state .svbk) ⌝ }
+    ensures { λ r. ⌜ AnswersByte state (state .svbk) r ⌝ }
 {
     if state.unreached() {
         return ByteAnswer::Refused(refusal::STATE);

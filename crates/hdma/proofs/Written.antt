@@ -1,8 +1,8 @@
 -- What a write to FF55 sets and what it keeps, as laws: what callers cite in place of the definitions. Assumes nothing.
-use Prim.Native.Nat.{ℕ}
+use Prim.Native.Nat.{ℕ, _≤_}
 use mathlib.Core.Path.{_≡_, refl}
 use mathlib.Core.Bool.{Bool, true, false, cond}
-use lib.Dec.{leb}
+use lib.Dec.{leb, lit≤}
 use Rattle.console.specs.Modes.{isHBlank}
 use Rattle.console.specs.Set.{withDmaArb}
 use Rattle.console.specs.declared.vram_dma.TransferMode.the-variants.{Idle, General, HBlank}
@@ -14,20 +14,21 @@ use Rattle.hdma.specs.Hdma5.{lengthOf, grantsCleared, armedOf, cancelled
 chosen : Bool → Bool → Bool → ℕ → VramDma → VramDma
 chosen arms lcd armed n d = cond arms (armedOf n lcd d) (cond armed (cancelledOf n d) (startedOf n d))
 
--- what every write to FF55 leaves: the new length; pointers, quota and an owed escape as they were
+-- what every write to FF55 leaves: the new length; pointers, quota and an owed escape as they were; a block of at most 16
 pub record Kept (n : ℕ) (d e : VramDma) : Type 0 where
   pub left : e .cursor .remaining ≡ n
   pub source : e .cursor .source ≡ d .cursor .source
   pub dest : e .cursor .dest ≡ d .cursor .dest
   pub quota : e .cursor .quota ≡ d .cursor .quota
   pub escape : e .cursor .«escape_byte» ≡ d .cursor .«escape_byte»
+  pub block : d .block .remaining ≤ 16 → e .block .remaining ≤ 16
 
 kept : (arms lcd armed : Bool) (n : ℕ) (d : VramDma) → Kept n d (chosen arms lcd armed n (withDmaArb (grantsCleared (d .arb)) d))
-unfolding chosen armedOf cancelledOf startedOf latchedOf
-kept true true armed n d = record { left = refl; source = refl; dest = refl; quota = refl; escape = refl }
-kept true false armed n d = record { left = refl; source = refl; dest = refl; quota = refl; escape = refl }
-kept false lcd true n d = record { left = refl; source = refl; dest = refl; quota = refl; escape = refl }
-kept false lcd false n d = record { left = refl; source = refl; dest = refl; quota = refl; escape = refl }
+unfolding chosen armedOf cancelledOf startedOf latchedOf latchedBlock
+kept true true armed n d = record { left = refl; source = refl; dest = refl; quota = refl; escape = refl; block = λ h. h }
+kept true false armed n d = record { left = refl; source = refl; dest = refl; quota = refl; escape = refl; block = λ h. lit≤ tt }
+kept false lcd true n d = record { left = refl; source = refl; dest = refl; quota = refl; escape = refl; block = λ h. h }
+kept false lcd false n d = record { left = refl; source = refl; dest = refl; quota = refl; escape = refl; block = λ h. h }
 
 armed-mode : (lcd : Bool) (n : ℕ) (d : VramDma) → armedOf n lcd d .cursor .mode ≡ HBlank
 unfolding armedOf latchedOf

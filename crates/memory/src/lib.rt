@@ -1,4 +1,4 @@
-// Lent memory: the lengths that document 01 gives the slices, and access that is total, so that no
+// Lent memory: the length that document 01 gives a slice, and access that is total, so that no
 // caller needs to know a length.
 ghost use mathlib.Core.Path.{_≡_};
 ghost use lib.ListN.{getD, set};

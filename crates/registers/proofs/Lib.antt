@@ -3,3 +3,4 @@ pub mod Places
 pub mod Locks
 pub mod Key1
 pub mod Mapped
+pub mod Keeps

@@ -1,15 +1,15 @@
 -- `vram_dma_park_waits_for_fetch` meets its contract. Assumes nothing.
-use Rattle.engine.specs.Query.{flagOf, queryRefusal}
+use Rattle.engine.specs.Query.{flagOf, querySaid, queryRefusal}
 use Rattle.engine.proofs.query.vram_dma_park_waits_for_fetch.Statement.{statement}
 use Rattle.engine.proofs.query.vram_dma_park_waits_for_fetch.Tie as tie
 
 returns : tie.Need-returns
-unfolding flagOf queryRefusal
-returns c = rw (← c .before .unreached .ensures, c .if1 .taken)
+unfolding flagOf querySaid queryRefusal
+returns c = record { is = rw (← c .before .unreached .ensures, c .if1 .taken); says = rw (← c .before .unreached .ensures, c .if1 .taken) }
 
 returns-2 : tie.Need-returns-2
-unfolding flagOf queryRefusal
-returns-2 c = rw (← c .before .unreached .ensures, c .if1 .left)
+unfolding flagOf querySaid queryRefusal
+returns-2 c = record { is = rw (← c .before .unreached .ensures, c .if1 .left); says = rw (← c .before .unreached .ensures, c .if1 .left) }
 
 pub vram-dma-park-waits-for-fetch-spec : {M : Type 1} → statement M
 vram-dma-park-waits-for-fetch-spec = tie.close (tie.spec (λ _ _. tt) returns returns-2)

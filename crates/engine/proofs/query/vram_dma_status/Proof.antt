@@ -1,15 +1,15 @@
 -- `vram_dma_status` meets its contract. Assumes nothing.
-use Rattle.engine.specs.Query.{statusOf, queryRefusal}
+use Rattle.engine.specs.Query.{statusOf, querySaid, queryRefusal}
 use Rattle.engine.proofs.query.vram_dma_status.Statement.{statement}
 use Rattle.engine.proofs.query.vram_dma_status.Tie as tie
 
 returns : tie.Need-returns
-unfolding statusOf queryRefusal
-returns c = rw (← c .before .unreached .ensures, c .if1 .taken)
+unfolding statusOf querySaid queryRefusal
+returns c = record { is = rw (← c .before .unreached .ensures, c .if1 .taken); says = rw (← c .before .unreached .ensures, c .if1 .taken) }
 
 returns-2 : tie.Need-returns-2
-unfolding statusOf queryRefusal
-returns-2 c = rw (← c .before .before .before .unreached .ensures, c .before .before .if1 .left, c .status .ensures)
+unfolding statusOf querySaid queryRefusal
+returns-2 c = record { is = rw (← c .before .before .before .unreached .ensures, c .before .before .if1 .left, c .status .ensures); says = rw (← c .before .before .before .unreached .ensures, c .before .before .if1 .left, c .status .ensures) }
 
 pub vram-dma-status-spec : {M : Type 1} → statement M
 vram-dma-status-spec = tie.close (tie.spec (λ _ _. tt) returns (λ _ _. tt) returns-2)
