@@ -1,0 +1,28 @@
+//! Finds the original sources, which are not part of this repository, and makes modules of them:
+//! six files as they are, and of lib.rs the declaration of `Cgb` with its `Default` and its own methods.
+use std::path::PathBuf;
+use std::{env, fs};
+
+fn main() {
+    println!("cargo:rerun-if-env-changed=MISSINGNO_SRC");
+    let source = PathBuf::from(env::var("MISSINGNO_SRC").expect(
+        "set MISSINGNO_SRC to the folder crates/systems/gbc/src of ajoneil/missingno (5e5b8d7dad)",
+    ))
+    .canonicalize()
+    .expect("MISSINGNO_SRC names no folder");
+    let out = PathBuf::from(env::var("OUT_DIR").unwrap());
+    let mut modules = String::new();
+    for name in ["bus", "console_state", "registers", "speed_switch", "vram", "vram_dma"] {
+        let file = source.join(format!("{name}.rs"));
+        assert!(file.is_file(), "{} is missing", file.display());
+        println!("cargo:rerun-if-changed={}", file.display());
+        modules += &format!("#[path = {:?}]\n#[allow(dead_code)]\nmod {name};\n", file);
+    }
+    fs::write(out.join("originals.rs"), modules).unwrap();
+
+    let lib = fs::read_to_string(source.join("lib.rs")).expect("lib.rs is missing");
+    println!("cargo:rerun-if-changed={}", source.join("lib.rs").display());
+    let begin = lib.find("/// The Game Boy Color [`Model`].").expect("lib.rs has no `Cgb`");
+    let end = lib.find("impl Model for Cgb {").expect("lib.rs has no `impl Model for Cgb`");
+    fs::write(out.join("cgb.rs"), &lib[begin..end]).unwrap();
+}

@@ -1,0 +1,349 @@
+//! The calls of document 01, performed by the original. A refusal that the original has no word for is
+//! decided here by document 01's list; where the original says no (5, 11, 12, 13) or overflows (14), the
+//! number is given only because it did, and it is an error of the comparison if it does so elsewhere.
+use std::panic::{AssertUnwindSafe, catch_unwind};
+
+use missingno_gb::ppu::memory::{Vram, VramAddress};
+use missingno_gb::ppu::rendering::Mode;
+use missingno_gb::{Chassis, ConsoleShadow, VramDmaClaim};
+
+use crate::layout::{self, SIZE};
+use crate::memory::{self, Change, filled};
+use crate::{Cgb, VramDmaStatus};
+
+/// The kinds of call: 1 to 7 as in the replay format of document 01, section 6; the rest follow.
+pub mod kind {
+    pub const WRITE: u8 = 1;
+    pub const FALL: u8 = 2;
+    pub const NEXT_PAIR: u8 = 3;
+    pub const SWITCH: u8 = 4;
+    pub const LCD_OFF: u8 = 5;
+    pub const ESCAPE_DRAIN: u8 = 6;
+    pub const BLACKOUT: u8 = 7;
+    pub const READ: u8 = 8;
+    pub const BUS: u8 = 9;
+    pub const ARBITRATE: u8 = 10;
+    pub const WRITE_CONFLICT: u8 = 11;
+    pub const WAKE_INTAKE: u8 = 12;
+    pub const INSTRUCTION_RETIRED: u8 = 13;
+    pub const TALLY: u8 = 14;
+    pub const STATUS: u8 = 15;
+    pub const CLAIM: u8 = 16;
+    pub const PARK: u8 = 17;
+    pub const REQUEST_STANDING: u8 = 18;
+    pub const HOLDS_CPU: u8 = 19;
+    pub const SEIZES_BUS: u8 = 20;
+    pub const BLACKOUT_ACTIVE: u8 = 21;
+    pub const DIVIDER_ACTIVE: u8 = 22;
+    pub const DOUBLE_SPEED: u8 = 23;
+    pub const STEPS_PER_DOT: u8 = 24;
+    pub const WRAM_BANK: u8 = 25;
+    pub const SVBK: u8 = 26;
+    pub const LAST: u8 = 26;
+}
+
+/// A call: the replay's record of 16 bytes (byte 1 is the seed of memory's contents), and the lengths of the
+/// slices of cartridge, WRAM, VRAM and OAM.
+#[derive(Clone, Copy, Debug)]
+pub struct Call {
+    pub record: [u8; 16],
+    pub lengths: [u32; 4],
+}
+
+impl Call {
+    pub fn new(kind: u8) -> Self {
+        let mut record = [0; 16];
+        record[0] = kind;
+        let lengths =
+            [memory::CARTRIDGE, memory::WRAM, memory::VRAM, memory::OAM].map(|n| n as u32);
+        Self { record, lengths }
+    }
+    pub fn address(&self) -> u16 {
+        u16::from_le_bytes([self.record[2], self.record[3]])
+    }
+    pub fn edge(&self) -> u64 {
+        u64::from_le_bytes(self.record[8..16].try_into().unwrap())
+    }
+    pub fn bit(&self, k: u8) -> bool {
+        self.record[5] >> k & 1 == 1
+    }
+    fn whole(&self, which: usize) -> bool {
+        let right = [memory::CARTRIDGE, memory::WRAM, memory::VRAM, memory::OAM];
+        self.lengths[which] as usize == right[which]
+    }
+}
+
+/// What a call gave: byte 0 of the answer is the refusal, or 0; the values follow.
+pub struct Outcome {
+    pub answer: [u8; 32],
+    pub state: [u8; SIZE],
+    pub changes: Vec<Change>,
+}
+
+/// Refusal 7, on the bytes.
+pub fn unreached(state: &[u8; SIZE]) -> bool {
+    let left = u16::from_le_bytes([state[5], state[6]]);
+    state[7] > 2 || state[9] > 16 || left > 2048 || state[41] > 7 || state[80] > 1 || (left == 0 && state[4] != 0)
+}
+
+fn mode(number: u8) -> Mode {
+    match number {
+        0 => Mode::HorizontalBlank,
+        1 => Mode::VerticalBlank,
+        2 => Mode::OamScan,
+        _ => Mode::Drawing,
+    }
+}
+
+pub struct Oracle {
+    cgb: Cgb,
+    chassis: Chassis<Cgb>,
+}
+
+impl Oracle {
+    pub fn new() -> Self {
+        std::panic::set_hook(Box::new(|_| {}));
+        Self { cgb: Cgb::default(), chassis: Chassis::new() }
+    }
+
+    /// The state at power-on.
+    pub fn power_on(&self, compat: bool) -> [u8; SIZE] {
+        let mut cgb = Cgb::default();
+        cgb.dmg_compat = compat;
+        layout::encode(&cgb, &crate::CgbVram::default())
+    }
+
+    fn load(&mut self, state: &[u8; SIZE]) {
+        layout::decode(state, &mut self.cgb, &mut self.chassis.vram_bus.vram);
+    }
+
+    fn store(&self) -> [u8; SIZE] {
+        layout::encode(&self.cgb, &self.chassis.vram_bus.vram)
+    }
+
+    fn fill_wram(&mut self, seed: u8) {
+        for i in 0..memory::WRAM {
+            self.cgb.wram[i] = filled(1, seed, i);
+        }
+    }
+
+    fn fill_bus(&mut self, seed: u8) {
+        for i in 0..memory::CARTRIDGE {
+            self.chassis.cartridge[i] = filled(0, seed, i);
+        }
+        let image: Vec<u8> = (0..memory::VRAM).map(|i| filled(2, seed, i)).collect();
+        self.chassis.vram_bus.vram.restore_image(&image);
+        for i in 0..memory::OAM {
+            self.chassis.oam[i] = filled(3, seed, i);
+        }
+    }
+
+    fn changed_wram(&self, seed: u8) -> Vec<Change> {
+        let differs = |i: &usize| self.cgb.wram[*i] != filled(1, seed, *i);
+        (0..memory::WRAM)
+            .filter(differs)
+            .map(|i| Change { which: 1, index: i as u16, value: self.cgb.wram[i] })
+            .collect()
+    }
+
+    fn changed_bus(&self, seed: u8) -> Vec<Change> {
+        let vram = &self.chassis.vram_bus.vram;
+        let at = |i: usize| vram.bank((i / 0x2000) as u8).read(VramAddress((i % 0x2000) as u16));
+        let mut changes = Vec::new();
+        for i in 0..memory::VRAM {
+            if at(i) != filled(2, seed, i) {
+                changes.push(Change { which: 2, index: i as u16, value: at(i) });
+            }
+        }
+        for i in 0..memory::OAM {
+            if self.chassis.oam[i] != filled(3, seed, i) {
+                changes.push(Change { which: 3, index: i as u16, value: self.chassis.oam[i] });
+            }
+        }
+        changes
+    }
+
+    pub fn perform(&mut self, call: &Call, before: &[u8; SIZE]) -> Outcome {
+        let declined = |number: u8| {
+            let mut answer = [0; 32];
+            answer[0] = number;
+            Outcome { answer, state: *before, changes: Vec::new() }
+        };
+        if unreached(before) {
+            return declined(7);
+        }
+        self.load(before);
+        let mut answer = [0u8; 32];
+        let mut changes = Vec::new();
+        let seed = call.record[1];
+        match call.record[0] {
+            kind::WRITE | kind::READ => {
+                if !call.whole(1) {
+                    return declined(2);
+                }
+                if (0xFF68..=0xFF6C).contains(&call.address()) {
+                    return declined(4);
+                }
+                self.fill_wram(seed);
+                if call.record[0] == kind::READ {
+                    let vram = &self.chassis.vram_bus.vram;
+                    match self.cgb.map_read_byte(call.address(), &self.chassis.ppu, vram) {
+                        Some(byte) => answer[1] = byte,
+                        None => return declined(4),
+                    }
+                } else {
+                    self.chassis.ppu.control.lcd_on = call.record[5] != 0;
+                    let vram = &mut self.chassis.vram_bus.vram;
+                    if !self.cgb.map_write_byte(call.address(), call.record[4], &mut self.chassis.ppu, vram) {
+                        return declined(4);
+                    }
+                    changes = self.changed_wram(seed);
+                }
+            }
+            kind::FALL => {
+                if call.record[4] > 3 {
+                    return declined(1);
+                }
+                let cpu = &mut self.chassis.cpu;
+                cpu.halted = call.bit(0);
+                cpu.irq = call.bit(1);
+                cpu.stopped = call.bit(2);
+                self.chassis.dma.owns_bus = call.bit(3);
+                self.chassis.clock.edge = call.edge();
+                // The claim is stored only by a commit: cleared first, it tells whether this fall made one.
+                let kept = self.cgb.console_state.vram_dma_claim();
+                self.cgb.console_state.set_vram_dma_claim(VramDmaClaim::default());
+                let (cgb, chassis) = (&mut self.cgb, &mut self.chassis);
+                let fell = catch_unwind(AssertUnwindSafe(|| {
+                    cgb.vram_dma_fall_edge(chassis, mode(call.record[4]));
+                }));
+                if fell.is_err() {
+                    *self = Self::new();
+                    return declined(14);
+                }
+                let claim = self.cgb.console_state.vram_dma_claim();
+                answer[1] = claim.committed as u8;
+                answer[2] = claim.standing as u8;
+                if !claim.committed {
+                    self.cgb.console_state.set_vram_dma_claim(kept);
+                }
+            }
+            kind::NEXT_PAIR | kind::ESCAPE_DRAIN => {
+                let pair = if call.record[0] == kind::NEXT_PAIR {
+                    self.cgb.vram_dma.next_byte()
+                } else {
+                    self.cgb.vram_dma.drain_escape()
+                };
+                if let Some((source, dest)) = pair {
+                    answer[1] = 1;
+                    answer[2..4].copy_from_slice(&source.to_le_bytes());
+                    answer[4..6].copy_from_slice(&dest.to_le_bytes());
+                }
+            }
+            kind::SWITCH => {
+                let phase = call.record[4];
+                if phase > 4 {
+                    return declined(3);
+                }
+                let (hold, ready) = (call.bit(0), call.bit(1));
+                self.cgb.console_state.set_dma_cpu_hold(hold);
+                self.chassis.ppu.phase = (phase < 4).then_some(phase);
+                self.chassis.cpu.ime = ready;
+                self.chassis.interrupts.pending = ready;
+                self.chassis.clock.edge = call.edge();
+                let latched = self.cgb.vram_dma.block.remaining > 0;
+                let up = !self.cgb.double_speed;
+                let reason = if hold {
+                    5
+                } else if self.cgb.speed_switch_blackout > 0 {
+                    11
+                } else if !self.cgb.key1_armed {
+                    12
+                } else {
+                    13
+                };
+                let escape = self.cgb.vram_dma.cursor.escape_byte;
+                if !self.cgb.attempt_speed_switch(&mut self.chassis) {
+                    return declined(reason);
+                }
+                let cut = up && latched && self.cgb.vram_dma.block.remaining == 1 && self.cgb.vram_dma.cursor.escape_byte;
+                let discarded = up && latched && self.cgb.vram_dma.block.remaining == 0;
+                assert!(!up || !latched || cut != discarded);
+                assert!(cut || escape == self.cgb.vram_dma.cursor.escape_byte);
+                answer[1] = if cut { 2 } else { discarded as u8 };
+            }
+            kind::LCD_OFF => self.cgb.vram_dma_on_lcd_disabled(),
+            kind::BLACKOUT => {
+                let elapsed = u32::from_le_bytes(call.record[8..12].try_into().unwrap());
+                answer[1] = self.cgb.drain_blackout(elapsed) as u8;
+            }
+            kind::BUS => {
+                if !(0..4).all(|k| call.whole(k)) {
+                    return declined(2);
+                }
+                self.fill_wram(seed);
+                self.fill_bus(seed);
+                self.cgb.console_state.set_dma_cpu_hold(call.bit(0));
+                self.cgb.console_state.set_bus_suspended(call.bit(1));
+                self.chassis.dma.edge = call.edge();
+                self.cgb.vram_dma_commit_bytes(&mut self.chassis);
+                changes = self.changed_bus(seed);
+            }
+            kind::ARBITRATE => {
+                self.cgb.console_state.set_dma_cpu_hold(call.bit(0));
+                self.cgb.console_state.set_bus_suspended(call.bit(1));
+                self.chassis.dma.transferring = call.bit(2);
+                self.chassis.dma.stalled = false;
+                let either = self.cgb.vram_dma_arbitrate_oam_bus(&mut self.chassis);
+                let stalled = self.chassis.dma.stalled;
+                assert!(either || !stalled);
+                answer[1] = if stalled { 2 } else { either as u8 };
+            }
+            kind::WRITE_CONFLICT => {
+                if let Some(source) = self.cgb.vram_dma_write_conflict_source(call.address()) {
+                    answer[1] = 1;
+                    answer[2..4].copy_from_slice(&source.to_le_bytes());
+                }
+            }
+            kind::WAKE_INTAKE => answer[1] = self.cgb.wake_intake_ready(call.bit(0)) as u8,
+            kind::INSTRUCTION_RETIRED => self.cgb.vram_dma.arb.park_waits_for_fetch = false,
+            kind::TALLY => {
+                let c = &self.cgb.vram_dma.cursor;
+                answer[2..4].copy_from_slice(&c.source.to_le_bytes());
+                answer[4..6].copy_from_slice(&c.dest.to_le_bytes());
+                answer[6..8].copy_from_slice(&c.remaining.to_le_bytes());
+                answer[1] = c.escape_byte as u8;
+            }
+            kind::STATUS => match self.cgb.vram_dma_status() {
+                VramDmaStatus::Idle => {}
+                VramDmaStatus::General { remaining } => {
+                    answer[1] = 1;
+                    answer[2..4].copy_from_slice(&remaining.to_le_bytes());
+                }
+                VramDmaStatus::HBlank { remaining, source, dest } => {
+                    answer[1] = 2;
+                    answer[2..4].copy_from_slice(&remaining.to_le_bytes());
+                    answer[4..6].copy_from_slice(&source.to_le_bytes());
+                    answer[6..8].copy_from_slice(&dest.to_le_bytes());
+                }
+            },
+            kind::CLAIM => {
+                let claim = self.cgb.console_state.vram_dma_claim();
+                answer[1] = claim.committed as u8;
+                answer[2] = claim.standing as u8;
+            }
+            kind::PARK => answer[1] = self.cgb.vram_dma.arb.park_waits_for_fetch as u8,
+            kind::REQUEST_STANDING => answer[1] = self.cgb.vram_dma.request_standing() as u8,
+            kind::HOLDS_CPU => answer[1] = self.cgb.vram_dma.holds_cpu() as u8,
+            kind::SEIZES_BUS => answer[1] = self.cgb.vram_dma.seizes_bus() as u8,
+            kind::BLACKOUT_ACTIVE => answer[1] = self.cgb.blackout_active() as u8,
+            kind::DIVIDER_ACTIVE => answer[1] = self.cgb.blackout_divider_active() as u8,
+            kind::DOUBLE_SPEED => answer[1] = self.cgb.double_speed() as u8,
+            kind::STEPS_PER_DOT => answer[1] = self.cgb.steps_per_dot(),
+            kind::WRAM_BANK => answer[1] = self.cgb.wram_bank(),
+            kind::SVBK => answer[1] = self.cgb.svbk_register(),
+            other => unreachable!("kind {other}"),
+        }
+        Outcome { answer, state: self.store(), changes }
+    }
+}

@@ -1,0 +1,293 @@
+//! Vectors: half of them step lists of calls from power-on, half start from arbitrary states, of which a few
+//! fail refusal 7. One vector is 576 bytes: 0-15 the call's record, 16-31 the four lengths, 32-279 the state
+//! before, 280-311 the answer, 312-559 the state after, 560-575 up to four changed bytes of memory (which
+//! slice, or 0 for none; the index in two bytes; the value).
+use std::io::{BufWriter, Write};
+
+use crate::calls::{Call, Oracle, kind};
+use crate::layout::SIZE;
+use crate::memory;
+use crate::random::Random;
+
+pub const RECORD: usize = 576;
+
+fn edge(r: &mut Random) -> u64 {
+    match r.below(4) {
+        0 => r.below(64),
+        1 => u64::MAX - r.below(8),
+        _ => r.next(),
+    }
+}
+
+fn address(r: &mut Random) -> u16 {
+    const REGISTERS: [u16; 18] = [
+        0xFF4C, 0xFF4D, 0xFF4F, 0xFF51, 0xFF52, 0xFF53, 0xFF54, 0xFF55, 0xFF55, 0xFF55, 0xFF70, 0xFF72, 0xFF73,
+        0xFF74, 0xFF75, 0xFF46, 0xFF68, 0xFF6C,
+    ];
+    const LIMITS: [u16; 16] = [
+        0x0000, 0x7FFF, 0xBFFF, 0xC000, 0xCFFF, 0xD000, 0xDFFF, 0xE000, 0xEFFF, 0xF000, 0xFDFF, 0xFE00, 0xFE9F, 0xFEA0,
+        0xFEFF, 0xFFFF,
+    ];
+    match r.below(8) {
+        0 => r.pick(&LIMITS),
+        1 => 0xC000 + r.below(0x3E00) as u16,
+        2 => 0xFEA0 + r.below(0x60) as u16,
+        3 => 0xFF40 + r.below(0x40) as u16,
+        _ => r.pick(&REGISTERS),
+    }
+}
+
+/// An arbitrary call of one of the kinds; its slices are of the right lengths but for a few.
+fn call(r: &mut Random, kinds: &[u8]) -> Call {
+    let mut c = Call::new(r.pick(kinds));
+    c.record[1] = r.next() as u8;
+    match c.record[0] {
+        kind::WRITE | kind::READ | kind::WRITE_CONFLICT => {
+            c.record[2..4].copy_from_slice(&address(r).to_le_bytes());
+            c.record[4] = r.byte();
+            c.record[5] = if r.one_in(4) { 0 } else { r.byte() };
+        }
+        kind::FALL => {
+            c.record[4] = if r.one_in(50) { r.byte() } else { r.pick(&[0, 0, 3, 2, 1]) };
+            c.record[5] = match r.below(4) {
+                0 => 0,
+                1 => r.pick(&[1, 1, 3, 8]),
+                _ => r.next() as u8,
+            };
+            c.record[8..16].copy_from_slice(&edge(r).to_le_bytes());
+        }
+        kind::SWITCH => {
+            c.record[4] = if r.one_in(20) { r.byte() } else { r.below(5) as u8 };
+            c.record[5] = if r.one_in(4) { r.next() as u8 } else { 0 };
+            c.record[8..16].copy_from_slice(&edge(r).to_le_bytes());
+        }
+        kind::BLACKOUT => {
+            let elapsed = r.next() as u32 >> r.below(32);
+            c.record[8..12].copy_from_slice(&elapsed.to_le_bytes());
+        }
+        kind::BUS | kind::ARBITRATE | kind::WAKE_INTAKE => {
+            c.record[5] = r.next() as u8;
+            c.record[8..16].copy_from_slice(&edge(r).to_le_bytes());
+        }
+        _ => {}
+    }
+    if r.one_in(40) {
+        let which = r.below(4) as usize;
+        c.lengths[which] = if r.flag() { c.lengths[which] + 1 } else { c.lengths[which] - 1 };
+    }
+    c
+}
+
+/// A call that drives a transfer: what a console does, with something else now and then.
+fn likely(r: &mut Random, kinds: &[u8], step: u64, phase: &mut u8) -> Call {
+    if r.one_in(4) {
+        return call(r, kinds);
+    }
+    let wanted = match r.below(20) {
+        0 => kind::WRITE,
+        1 => kind::SWITCH,
+        2..=11 => kind::FALL,
+        12..=15 => kind::BUS,
+        16 => kind::ARBITRATE,
+        17 => kind::NEXT_PAIR,
+        18 => kind::BLACKOUT,
+        _ => kind::ESCAPE_DRAIN,
+    };
+    if !kinds.contains(&wanted) {
+        return call(r, kinds);
+    }
+    let mut c = Call::new(wanted);
+    c.record[1] = r.next() as u8;
+    match wanted {
+        kind::WRITE => {
+            let (address, value) = match r.below(8) {
+                0 => (0xFF4D, 1),
+                1 => (0xFF53, 0xFF),
+                2 => (0xFF54, 0xE0),
+                3 => (0xFF55, r.below(4) as u8),
+                4 => (0xFF51, r.byte()),
+                5 => (0xFF52, r.byte()),
+                _ => (0xFF55, 0x80 + r.below(8) as u8),
+            };
+            c.record[2..4].copy_from_slice(&(address as u16).to_le_bytes());
+            c.record[4] = value;
+            c.record[5] = !r.one_in(8) as u8;
+        }
+        kind::FALL => {
+            if r.one_in(6) {
+                *phase = r.below(6) as u8;
+            }
+            c.record[4] = if r.one_in(3) { 3 } else { 0 };
+            c.record[5] = match *phase {
+                0 => 1,
+                1 => 3,
+                2 if r.one_in(8) => 4,
+                _ => 0,
+            } | (r.one_in(4) as u8) << 3;
+            c.record[8..16].copy_from_slice(&(step * 2).to_le_bytes());
+        }
+        kind::SWITCH => {
+            c.record[4] = r.below(5) as u8;
+            c.record[8..16].copy_from_slice(&(step * 2).to_le_bytes());
+        }
+        kind::BUS | kind::ARBITRATE => {
+            c.record[5] = r.pick(&[1, 1, 2, 5, 5, 0, 7]);
+            c.record[8..16].copy_from_slice(&(step * 2).saturating_sub(r.below(16)).to_le_bytes());
+        }
+        kind::BLACKOUT => c.record[8..12].copy_from_slice(&(r.below(300_000) as u32).to_le_bytes()),
+        _ => {}
+    }
+    c
+}
+
+fn small(r: &mut Random, limit: u64) -> u8 {
+    if r.one_in(8) { r.byte() } else { r.below(limit + 1) as u8 }
+}
+
+/// An arbitrary state: every field anything of its type, refusal 7's six tests passed but once in 40.
+fn state(r: &mut Random) -> [u8; SIZE] {
+    let mut s = [0u8; SIZE];
+    let put = |s: &mut [u8; SIZE], at: usize, bytes: &[u8]| s[at..at + bytes.len()].copy_from_slice(bytes);
+    let near = |r: &mut Random| if r.one_in(3) { 0xFFFF - r.below(20) as u16 } else { r.next() as u16 };
+    let source = near(r);
+    put(&mut s, 0, &source.to_le_bytes());
+    let dest = near(r);
+    put(&mut s, 2, &dest.to_le_bytes());
+    s[4] = r.below(3) as u8;
+    let left = match r.below(4) {
+        0 => r.below(3) as u16,
+        1 => 16 * r.below(129) as u16,
+        _ => r.below(2049) as u16,
+    };
+    let left = if s[4] != 0 && left == 0 { 1 } else { left };
+    put(&mut s, 5, &left.to_le_bytes());
+    s[7] = r.below(3) as u8;
+    s[8] = r.one_in(3) as u8;
+    s[9] = r.pick(&[0, 0, 16, 16, 1, 15]);
+    if r.one_in(4) {
+        s[9] = r.below(17) as u8;
+    }
+    put(&mut s, 10, &edge(r).to_le_bytes());
+    s[18] = r.flag() as u8;
+    s[19] = small(r, 1);
+    s[20] = small(r, 2);
+    s[21] = small(r, 3);
+    s[22] = r.flag() as u8;
+    s[23] = r.one_in(3) as u8;
+    for at in 24..39 {
+        s[at] = r.flag() as u8;
+    }
+    s[27] = small(r, 5);
+    s[29] = small(r, 5);
+    s[31] = small(r, 36);
+    s[34] = small(r, 3);
+    s[37] = small(r, 6);
+    s[38] = match r.below(4) {
+        0 => 255,
+        1 => r.byte(),
+        _ => r.below(4) as u8,
+    };
+    // Nothing counting, nothing pending: the inert fall.
+    if r.one_in(6) {
+        for at in [4, 5, 6, 9, 19, 20, 23, 24, 26, 30, 31, 34, 35, 37] {
+            s[at] = 0;
+        }
+    }
+    s[39] = r.flag() as u8;
+    s[40] = r.flag() as u8;
+    s[41] = r.below(8) as u8;
+    s[42] = r.flag() as u8;
+    s[43] = r.flag() as u8;
+    s[44] = r.one_in(8) as u8;
+    let blackout = if r.flag() { 0 } else { r.next() as u32 >> r.below(32) };
+    put(&mut s, 45, &blackout.to_le_bytes());
+    s[49] = r.flag() as u8;
+    s[50] = if s[49] == 1 { small(r, 2) } else { 0 };
+    s[51] = r.flag() as u8;
+    for at in 52..80 {
+        s[at] = r.next() as u8;
+    }
+    s[80] = r.flag() as u8;
+    put(&mut s, 81, &edge(r).to_le_bytes());
+    s[89] = r.flag() as u8;
+    s[90] = r.flag() as u8;
+    if r.one_in(40) {
+        match r.below(6) {
+            0 => s[7] = 3 + r.below(253) as u8,
+            1 => s[9] = 17 + r.below(239) as u8,
+            2 => put(&mut s, 5, &(2049 + r.below(63_487) as u16).to_le_bytes()),
+            3 => s[41] = 8 + r.below(248) as u8,
+            4 => s[80] = 2 + r.below(254) as u8,
+            _ => {
+                s[4] = 1 + r.below(2) as u8;
+                put(&mut s, 5, &[0, 0]);
+            }
+        }
+    }
+    s
+}
+
+fn record(oracle: &mut Oracle, call: &Call, before: &[u8; SIZE]) -> ([u8; RECORD], [u8; SIZE]) {
+    let outcome = oracle.perform(call, before);
+    let mut out = [0u8; RECORD];
+    out[..16].copy_from_slice(&call.record);
+    for (k, n) in call.lengths.iter().enumerate() {
+        out[16 + 4 * k..20 + 4 * k].copy_from_slice(&n.to_le_bytes());
+    }
+    out[32..32 + SIZE].copy_from_slice(before);
+    out[280..312].copy_from_slice(&outcome.answer);
+    out[312..560].copy_from_slice(&outcome.state);
+    assert!(outcome.changes.len() <= 4);
+    for (k, change) in outcome.changes.iter().enumerate() {
+        let at = 560 + 4 * k;
+        out[at] = change.which;
+        out[at + 1..at + 3].copy_from_slice(&change.index.to_le_bytes());
+        out[at + 3] = change.value;
+    }
+    (out, outcome.state)
+}
+
+pub fn write(words: &[String], usage: &str) {
+    let parsed = |k: usize| words.get(k).and_then(|w| w.parse::<u64>().ok());
+    let (Some(seed), Some(count)) = (parsed(0), parsed(1)) else {
+        eprintln!("{usage}");
+        std::process::exit(2);
+    };
+    let kinds: Vec<u8> = match words.get(2) {
+        Some(list) => list.split(',').map(|w| w.parse().expect(usage)).collect(),
+        None => (1..=kind::LAST).collect(),
+    };
+    let mut r = Random::new(seed);
+    let mut oracle = Oracle::new();
+    let mut out = BufWriter::new(std::io::stdout().lock());
+    let mut written = 0;
+    let _ = memory::CARTRIDGE;
+    while written < count {
+        if r.flag() {
+            // A list of calls from power-on.
+            let mut now = oracle.power_on(r.one_in(16));
+            let mut phase = 5;
+            for step in 0..64 + r.below(192) {
+                let c = likely(&mut r, &kinds, step, &mut phase);
+                let (bytes, after) = record(&mut oracle, &c, &now);
+                out.write_all(&bytes).unwrap();
+                now = after;
+                written += 1;
+                if written == count {
+                    break;
+                }
+            }
+        } else {
+            for _ in 0..128 {
+                let before = state(&mut r);
+                let c = call(&mut r, &kinds);
+                out.write_all(&record(&mut oracle, &c, &before).0).unwrap();
+                written += 1;
+                if written == count {
+                    break;
+                }
+            }
+        }
+    }
+    out.flush().unwrap();
+}
