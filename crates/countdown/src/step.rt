@@ -1,12 +1,31 @@
 // The Rust's saturating steps. Subtraction of naturals stops at 0, so each contract is the plain difference.
 ghost use mathlib.Core.Path.{_≡_};
 ghost use Prim.Native.Nat.{_-_, _<_};
-ghost use Rattle.countdown.specs.Countdown.{Widened};
+ghost use mathlib.Core.Bool.{cond};
+ghost use Rattle.countdown.specs.Countdown.{Widened, saturatingInc};
 
 pub fn less_one(n: u8) -> u8
     ensures { λ r. ⌜ r ≡ n - 1 ⌝ }
 {
     if n > 0 { n - 1 } else { 0 }
+}
+
+pub fn saturating_inc(n: u8) -> u8
+    ensures { λ r. ⌜ r ≡ saturatingInc n ⌝ }
+{
+    if n < 255 { n + 1 } else { 255 }
+}
+
+pub fn less_one_if(c: bool, n: u8) -> u8
+    ensures { λ r. ⌜ r ≡ cond c (n - 1) n ⌝ }
+{
+    if c { less_one(n) } else { n }
+}
+
+pub fn saturating_inc_if(c: bool, n: u8) -> u8
+    ensures { λ r. ⌜ r ≡ cond c (saturatingInc n) n ⌝ }
+{
+    if c { saturating_inc(n) } else { n }
 }
 
 pub fn saturating_sub16(a: u16, b: u16) -> u16

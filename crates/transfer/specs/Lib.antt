@@ -1,2 +1,3 @@
 pub mod Questions
 pub mod Latch
+pub mod Pair

@@ -1,5 +1,7 @@
 // The byte engine of vram_dma.rs (`impl VramDma`, `impl TransferCursor`): what is asked of it, and
 // the block that it launches with no HBlank to wait for.
+pub mod pair;
+
 ghost use mathlib.Core.Path.{_≡_};
 ghost use Rattle.transfer.specs.Questions.{writeAddress, statusOf, requestStanding, holdsCpu, seizesBus};
 ghost use Rattle.transfer.specs.Latch.{latchedBlock, latchedOf};

@@ -1,0 +1,11 @@
+-- `step_blinds` meets its contract. Assumes nothing.
+use Rattle.fall_edge.specs.Stages.{blindsArb}
+use Rattle.fall_edge.proofs.arb.step_blinds.Statement.{statement}
+use Rattle.fall_edge.proofs.arb.step_blinds.Tie as tie
+
+returns : tie.Need-returns
+unfolding blindsArb
+returns c = simp (c .tick2 .ensures, c .before .tick .ensures)
+
+pub step-blinds-spec : {M : Type 1} → statement M
+step-blinds-spec = tie.close (tie.spec (λ _ _. tt) (λ _ _. tt) returns)

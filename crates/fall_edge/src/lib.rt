@@ -1,0 +1,386 @@
+// The fall (vram_dma.rs, `vram_dma_fall_edge`): one evaluation on a falling dot clock edge, in stages
+// in document 01's order. Each stage makes anew only the part that it touches.
+mod arb;
+mod block;
+mod same;
+
+ghost use mathlib.Core.Path.{_≡_};
+ghost use Rattle.fall_edge.specs.View.{viewOf, gates};
+ghost use Rattle.fall_edge.specs.Stages.{inertOf, settledOf, observedOf, probationOf, haltLatchOf, gatedOf, blindsOf, commits, overflows, commitOf, tenureOf, pendOf, readinessOf, refilledOf, seizureOf, claimOf};
+ghost use Rattle.fall_edge.specs.Fall.{startedOf, servedOf, decidedOf, ranOf, fallOf};
+use console::VramDmaClaim;
+use console::vram_dma::VramDma;
+
+// What a fall is given.
+pub struct FallInput {
+    // 0 to 3; 0 is HBlank.
+    pub mode: u8,
+    pub halted: bool,
+    pub irq_latched: bool,
+    pub stopped: bool,
+    pub master_edge: u64,
+    // OAM DMA owns a bus.
+    pub oam_owns_bus: bool,
+}
+
+// What every stage of one fall sees.
+pub struct View {
+    pub in_hblank: bool,
+    // Mode 0 now and not at the previous fall: document 01's "entry".
+    pub entry_edge: bool,
+    pub cpu_halted: bool,
+    // The CPU was halted at the previous fall.
+    pub was_halted: bool,
+    // Mode HBlank.
+    pub armed: bool,
+    pub double_speed: bool,
+    pub master_edge: u64,
+    pub oam_owns_bus: bool,
+}
+
+// A fall's outcome: refused where an uncounted commit would raise granted from 255; the claim has both
+// flags false where nothing committed.
+pub struct Fallen {
+    pub refused: bool,
+    pub claim: VramDmaClaim,
+    pub dma: VramDma,
+}
+
+impl FallInput {
+    // Document 01's "gated": stopped, or halted without a latched IRQ.
+    fn gates(self) -> bool
+        ensures { λ r. ⌜ r ≡ gates self ⌝ }
+    {
+        (self.halted & !self.irq_latched) | self.stopped
+    }
+
+    fn view(self, d: VramDma, double_speed: bool) -> View
+        ensures { λ r. ⌜ r ≡ viewOf self «double_speed» d ⌝ }
+    {
+        let c = d.cursor;
+        let mode = c.mode;
+        let armed = mode.is_hblank();
+        let in_hblank = self.mode == 0;
+        View {
+            in_hblank: in_hblank,
+            entry_edge: in_hblank & !d.arb.prev_view_hblank,
+            cpu_halted: self.halted,
+            was_halted: d.arb.prev_cpu_halted,
+            armed: armed,
+            double_speed: double_speed,
+            master_edge: self.master_edge,
+            oam_owns_bus: self.oam_owns_bus,
+        }
+    }
+}
+
+// Nothing to arbitrate: then the whole fall is `settle_inert`.
+fn inert(d: VramDma) -> bool
+    ensures { λ r. ⌜ r ≡ inertOf d ⌝ }
+{
+    (d.cursor.remaining == 0)
+        & ((d.block.remaining == 0)
+            & !(d.block.setup_cells.0 > 0)
+            & !(d.block.ready_in.0 > 0)
+            & !d.block.arm_ready_probation
+            & !d.arb.pend
+            & !d.arb.pend_granted
+            & !d.arb.prev_cpu_halted
+            & !d.arb.armed_this_fall
+            & !(d.arb.halt_wake_blind.0 > 0)
+            & !(d.arb.wake_pend_blind.0 > 0)
+            & !(d.arb.wake_tenure.0 > 0))
+}
+
+fn settle_inert(d: VramDma, in_hblank: bool) -> VramDma
+    ensures { λ r. ⌜ r ≡ settledOf in_hblank d ⌝ }
+{
+    let cursor = same::cursor_with(d.cursor, 0);
+    let block = block::settle(d.block, in_hblank);
+    let arb = arb::settle(d.arb, in_hblank);
+    let oam = same::oam(d.oam);
+    VramDma {
+        cursor: cursor,
+        block: block,
+        arb: arb,
+        oam: oam,
+    }
+}
+
+// The view, the halted falls, the taken-clear and a wake's blind.
+fn observe(d: VramDma, v: View) -> VramDma
+    ensures { λ r. ⌜ r ≡ observedOf v d ⌝ }
+{
+    let arb = arb::observe(d.arb, v);
+    let clear = block::taken_clears(v, arb.halted_falls);
+    let block = block::keep_taken(d.block, clear);
+    let cursor = same::cursor(d.cursor);
+    let oam = same::oam(d.oam);
+    VramDma {
+        cursor: cursor,
+        block: block,
+        arb: arb,
+        oam: oam,
+    }
+}
+
+// A launch that readied outside mode 0 reverts.
+fn judge_probation(d: VramDma, v: View) -> VramDma
+    ensures { λ r. ⌜ r ≡ probationOf v d ⌝ }
+{
+    let back = block::reverts(d.block, v);
+    let block = block::judge(d.block, back);
+    let arb = arb::ungrant(d.arb, back);
+    let cursor = same::cursor(d.cursor);
+    let oam = same::oam(d.oam);
+    VramDma {
+        cursor: cursor,
+        block: block,
+        arb: arb,
+        oam: oam,
+    }
+}
+
+// A block not yet ready at the halt latch becomes a granted pend.
+fn join_halt(d: VramDma, v: View) -> VramDma
+    ensures { λ r. ⌜ r ≡ haltLatchOf v d ⌝ }
+{
+    let joins = block::joins_halt(d.block, v);
+    let block = block::drop_if(d.block, joins);
+    let arb = arb::join_halt(d.arb, v.cpu_halted, joins);
+    let cursor = same::cursor(d.cursor);
+    let oam = same::oam(d.oam);
+    VramDma {
+        cursor: cursor,
+        block: block,
+        arb: arb,
+        oam: oam,
+    }
+}
+
+// Steps 3 and 4: what is done gated or not.
+fn start(d: VramDma, v: View) -> VramDma
+    ensures { λ r. ⌜ r ≡ startedOf v d ⌝ }
+{
+    join_halt(judge_probation(observe(d, v), v), v)
+}
+
+fn refill(d: VramDma, double_speed: bool) -> VramDma
+    ensures { λ r. ⌜ r ≡ refilledOf «double_speed» d ⌝ }
+{
+    let moving = transfer::pair::moving(d);
+    let quota = transfer::pair::quota(moving, double_speed);
+    let cursor = same::cursor_with(d.cursor, quota);
+    let block = same::block(d.block);
+    let arb = same::arb(d.arb);
+    let oam = same::oam(d.oam);
+    VramDma {
+        cursor: cursor,
+        block: block,
+        arb: arb,
+        oam: oam,
+    }
+}
+
+// Step 5: a pend ages, and an entry in the halt pends or grants.
+fn gate(d: VramDma, v: View) -> VramDma
+    ensures { λ r. ⌜ r ≡ gatedOf v d ⌝ }
+{
+    let pends = v.cpu_halted & v.entry_edge & v.armed & !d.block.taken & (d.cursor.remaining > 0);
+    let arb = arb::in_halt(d.arb, v, pends, d.cursor.remaining / 16);
+    let cursor = same::cursor(d.cursor);
+    let block = same::block(d.block);
+    let oam = same::oam(d.oam);
+    let aged = VramDma {
+        cursor: cursor,
+        block: block,
+        arb: arb,
+        oam: oam,
+    };
+    refill(aged, v.double_speed)
+}
+
+fn step_blinds(d: VramDma, v: View) -> VramDma
+    ensures { λ r. ⌜ r ≡ blindsOf v d ⌝ }
+{
+    let blinded = arb::blinded(d.arb, v);
+    let arb = arb::step_blinds(d.arb);
+    let block = block::take_if(d.block, blinded);
+    let cursor = same::cursor(d.cursor);
+    let oam = same::oam(d.oam);
+    VramDma {
+        cursor: cursor,
+        block: block,
+        arb: arb,
+        oam: oam,
+    }
+}
+
+fn commit(d: VramDma, v: View, committing: bool) -> VramDma
+    ensures { λ r. ⌜ r ≡ commitOf committing v d ⌝ }
+{
+    let arb = arb::commit(d.arb, v, committing);
+    let block = block::commit(d.block, v, d.arb, committing);
+    let cursor = same::cursor(d.cursor);
+    let oam = same::oam(d.oam);
+    VramDma {
+        cursor: cursor,
+        block: block,
+        arb: arb,
+        oam: oam,
+    }
+}
+
+// The wake drain's tenure consumes an entry that lands in it.
+fn step_tenure(d: VramDma, v: View) -> VramDma
+    ensures { λ r. ⌜ r ≡ tenureOf v d ⌝ }
+{
+    let consumed = arb::consumes(d.arb, v);
+    let arb = arb::step_tenure(d.arb, consumed & (d.cursor.remaining > 0));
+    let block = block::take_if(d.block, consumed);
+    let cursor = same::cursor(d.cursor);
+    let oam = same::oam(d.oam);
+    VramDma {
+        cursor: cursor,
+        block: block,
+        arb: arb,
+        oam: oam,
+    }
+}
+
+fn renew_pend(d: VramDma, v: View, committing: bool) -> VramDma
+    ensures { λ r. ⌜ r ≡ pendOf committing v d ⌝ }
+{
+    let pends = !committing
+        & v.armed
+        & v.in_hblank
+        & !d.block.taken
+        & (d.cursor.remaining > 0)
+        & (d.block.remaining == 0);
+    let arb = arb::renew_pend(d.arb, pends);
+    let block = same::block(d.block);
+    let cursor = same::cursor(d.cursor);
+    let oam = same::oam(d.oam);
+    VramDma {
+        cursor: cursor,
+        block: block,
+        arb: arb,
+        oam: oam,
+    }
+}
+
+fn step_readiness(d: VramDma, double_speed: bool) -> VramDma
+    ensures { λ r. ⌜ r ≡ readinessOf «double_speed» d ⌝ }
+{
+    let block = block::step_readiness(d.block, double_speed);
+    let arb = same::arb(d.arb);
+    let cursor = same::cursor(d.cursor);
+    let oam = same::oam(d.oam);
+    VramDma {
+        cursor: cursor,
+        block: block,
+        arb: arb,
+        oam: oam,
+    }
+}
+
+fn count_seizure(d: VramDma) -> VramDma
+    ensures { λ r. ⌜ r ≡ seizureOf d ⌝ }
+{
+    let seizes = transfer::seizes_bus(d);
+    let block = block::count_seizure(d.block, seizes);
+    let arb = same::arb(d.arb);
+    let cursor = same::cursor(d.cursor);
+    let oam = same::oam(d.oam);
+    VramDma {
+        cursor: cursor,
+        block: block,
+        arb: arb,
+        oam: oam,
+    }
+}
+
+fn committing(d: VramDma, v: View) -> bool
+    ensures { λ r. ⌜ r ≡ commits v d ⌝ }
+{
+    d.arb.pend
+        & v.armed
+        & (v.in_hblank | d.arb.pend_from_arm | d.arb.pend_granted)
+        & (!v.cpu_halted | (d.arb.pend_age <= 2) | d.arb.pend_granted)
+}
+
+// What follows the decision to commit or not.
+fn serve(d: VramDma, v: View, committing: bool) -> VramDma
+    ensures { λ r. ⌜ r ≡ servedOf committing v d ⌝ }
+{
+    let committed = commit(d, v, committing);
+    let held = step_tenure(committed, v);
+    let pended = renew_pend(held, v, committing);
+    let ready = step_readiness(pended, v.double_speed);
+    count_seizure(refill(ready, v.double_speed))
+}
+
+// Step 6 from the commit on, of the state after the blinds; refused, the state is the one given.
+fn decide(given: VramDma, d: VramDma, v: View) -> Fallen
+    ensures { λ r. ⌜ r ≡ decidedOf v given d ⌝ }
+{
+    let committing = committing(d, v);
+    let overflow = committing & !d.arb.grant_counted & (d.arb.granted_ahead == 255);
+    if overflow {
+        return Fallen {
+            refused: true,
+            claim: VramDmaClaim {
+                committed: false,
+                standing: false,
+            },
+            dma: given,
+        };
+    }
+    let dma = serve(d, v, committing);
+    Fallen {
+        refused: false,
+        claim: VramDmaClaim {
+            committed: committing,
+            standing: committing & (dma.arb.pend_age >= 4) & !v.oam_owns_bus,
+        },
+        dma: dma,
+    }
+}
+
+fn run(d: VramDma, v: View, gated: bool) -> Fallen
+    ensures { λ r. ⌜ r ≡ ranOf gated v d ⌝ }
+{
+    let started = start(d, v);
+    if gated {
+        let dma = gate(started, v);
+        return Fallen {
+            refused: false,
+            claim: VramDmaClaim {
+                committed: false,
+                standing: false,
+            },
+            dma: dma,
+        };
+    }
+    decide(d, step_blinds(started, v), v)
+}
+
+pub fn fall_edge(d: VramDma, double_speed: bool, input: FallInput) -> Fallen
+    ensures { λ r. ⌜ r ≡ fallOf input «double_speed» d ⌝ }
+{
+    let inert = inert(d) & !input.halted & !input.stopped;
+    if inert {
+        let dma = settle_inert(d, input.mode == 0);
+        return Fallen {
+            refused: false,
+            claim: VramDmaClaim {
+                committed: false,
+                standing: false,
+            },
+            dma: dma,
+        };
+    }
+    let v = input.view(d, double_speed);
+    let gated = input.gates();
+    run(d, v, gated)
+}

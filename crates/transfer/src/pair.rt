@@ -1,0 +1,164 @@
+// The next pair of addresses (vram_dma.rs, `next_byte`, `drain_escape`, `moving`, `refill_quota`).
+ghost use mathlib.Core.Path.{_≡_};
+ghost use Rattle.transfer.specs.Pair.{movingOf, quotaOf, leftAfter, cursorAfter, blockAfter, arbAfter, pairOf, advancedOf, nextByteOf, withQuota, drainOf};
+use console::vram_dma::HaltArbiter;
+use console::vram_dma::HblankBlock;
+use console::vram_dma::OamContention;
+use console::vram_dma::TransferCursor;
+use console::vram_dma::TransferMode;
+use console::vram_dma::VramDma;
+use console::vram_dma::pick_mode;
+use countdown::pick::pick8;
+use countdown::pick::pick16;
+use countdown::step::less_one;
+use countdown::step::saturating_sub16;
+
+// Where a byte is read and where it is stored.
+pub struct BytePair {
+    pub source: u16,
+    pub dest: u16,
+}
+
+// `Option<(u16, u16)>` in the Rust.
+pub enum NextAnswer {
+    Pair(BytePair),
+    None,
+}
+
+pub struct NextByte {
+    pub answer: NextAnswer,
+    pub dma: VramDma,
+}
+
+// Whether a byte may move: bytes are left, and a ready block stands or the mode is General.
+pub fn moving(d: VramDma) -> bool
+    ensures { λ r. ⌜ r ≡ movingOf d ⌝ }
+{
+    let c = d.cursor;
+    let mode = c.mode;
+    let general = mode.is_general();
+    let waiting = d.block.ready_in.active();
+    let left = c.remaining > 0;
+    ((d.block.remaining > 0) & left & !waiting) | (general & left)
+}
+
+// The bytes that an M-cycle may move.
+pub fn quota(moving: bool, double_speed: bool) -> u8
+    ensures { λ r. ⌜ r ≡ quotaOf moving «double_speed» ⌝ }
+{
+    pick8(moving, pick8(double_speed, 1, 2), 0)
+}
+
+// What is left after a pair: an owed escape is taken instead, and a carry ends the transfer.
+fn left_after(c: TransferCursor) -> u16
+    ensures { λ r. ⌜ r ≡ leftAfter c ⌝ }
+{
+    let counted = pick16(c.escape_byte, c.remaining, saturating_sub16(c.remaining, 1));
+    pick16(c.dest == 0xFFFF, 0, counted)
+}
+
+fn cursor_after(c: TransferCursor) -> TransferCursor
+    ensures { λ r. ⌜ r ≡ cursorAfter c ⌝ }
+{
+    let left = left_after(c);
+    let old = c.mode;
+    let mode = pick_mode(left == 0, TransferMode::Idle, old);
+    let source = std::num::wrapping_add_u16(c.source, 1);
+    let dest = std::num::wrapping_add_u16(c.dest, 1);
+    let quota = less_one(c.quota);
+    TransferCursor {
+        source: source,
+        dest: dest,
+        mode: mode,
+        remaining: left,
+        quota: quota,
+        escape_byte: false,
+    }
+}
+
+fn block_after(b: HblankBlock) -> HblankBlock
+    ensures { λ r. ⌜ r ≡ blockAfter b ⌝ }
+{
+    let last = b.remaining == 1;
+    let remaining = less_one(b.remaining);
+    let setup = b.setup_cells;
+    let ready = b.ready_in;
+    HblankBlock {
+        remaining: remaining,
+        start_edge: b.start_edge,
+        taken: b.taken,
+        setup_cells: setup,
+        ready_in: ready,
+        seize_falls: b.seize_falls,
+        from_arm: b.from_arm & !last,
+        arm_ready_probation: b.arm_ready_probation,
+    }
+}
+
+// last: the pair is the block's last one; ended: nothing is left.
+fn arb_after(mut a: HaltArbiter, last: bool, ended: bool) -> HaltArbiter
+    ensures { λ r. ⌜ r ≡ arbAfter last ended a ⌝ }
+{
+    let granted = pick8(last, less_one(a.granted_ahead), a.granted_ahead);
+    let park = a.park_waits_for_fetch & !last;
+    let claim = a.idle_claim & !ended;
+    a.granted_ahead = granted;
+    a.park_waits_for_fetch = park;
+    a.idle_claim = claim;
+    a
+}
+
+fn advance(d: VramDma) -> VramDma
+    ensures { λ r. ⌜ r ≡ advancedOf d ⌝ }
+{
+    let last = d.block.remaining == 1;
+    let cursor = cursor_after(d.cursor);
+    let block = block_after(d.block);
+    let arb = arb_after(d.arb, last, cursor.remaining == 0);
+    VramDma {
+        cursor: cursor,
+        block: block,
+        arb: arb,
+        oam: OamContention {
+            was_transferring: d.oam.was_transferring,
+            contended: d.oam.contended,
+        },
+    }
+}
+
+pub fn next_byte(d: VramDma) -> NextByte
+    ensures { λ r. ⌜ r ≡ nextByteOf d ⌝ }
+{
+    let ready = (d.cursor.quota > 0) & moving(d);
+    if ready {
+        let dest = crate::write_address(d.cursor);
+        let dma = advance(d);
+        return NextByte {
+            answer: NextAnswer::Pair(BytePair {
+                source: d.cursor.source,
+                dest: dest,
+            }),
+            dma: dma,
+        };
+    }
+    NextByte {
+        answer: NextAnswer::None,
+        dma: d,
+    }
+}
+
+// The escape byte of a cut, moved outside the length.
+pub fn drain_escape(d: VramDma) -> NextByte
+    ensures { λ r. ⌜ r ≡ drainOf d ⌝ }
+{
+    let owed = d.cursor.escape_byte & moving(d);
+    if owed {
+        let mut one = d;
+        one.cursor.quota = 1;
+        return next_byte(one);
+    }
+    NextByte {
+        answer: NextAnswer::None,
+        dma: d,
+    }
+}
