@@ -1,1 +1,3 @@
 pub mod Speed
+pub mod Switch
+pub mod Blackout

@@ -1,4 +1,8 @@
-// The KEY1 speed switch (speed_switch.rs): what is asked of the speed and of a blackout.
+// The KEY1 speed switch (speed_switch.rs): what is asked of the speed and of a blackout, the switch, and
+// the blackout that follows it.
+pub mod blackout;
+pub mod switch;
+
 ghost use mathlib.Core.Path.{_≡_};
 ghost use Rattle.speed_switch.specs.Speed.{stepsPerDot, relockEdges, blackoutActive, dividerActive};
 use countdown::pick::pick8;

@@ -1,3 +1,4 @@
 pub mod Questions
 pub mod Latch
 pub mod Pair
+pub mod Conflict

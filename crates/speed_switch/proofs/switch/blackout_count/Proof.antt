@@ -1,0 +1,12 @@
+-- `blackout_count` meets its contract. Assumes nothing.
+use Rattle.speed_switch.proofs.Counts as counts
+use Rattle.speed_switch.specs.Switch.{blackoutOf}
+use Rattle.speed_switch.proofs.switch.blackout_count.Statement.{statement}
+use Rattle.speed_switch.proofs.switch.blackout_count.Tie as tie
+
+returns : tie.Need-returns
+unfolding blackoutOf
+returns c = simp (c .pick324 .ensures, c .before .relock-edges .ensures, c .before .before .pick323 .ensures, c .before .before .before .pick322 .ensures, c .before .before .before .before .pick32 .ensures, counts.upward, counts.downward)
+
+pub blackout-count-spec : {M : Type 1} → statement M
+blackout-count-spec = tie.close (tie.spec (λ _ _. tt) (λ _ _. tt) (λ _ _. tt) (λ _ _. tt) (λ _ _. tt) returns)

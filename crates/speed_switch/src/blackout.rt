@@ -1,0 +1,93 @@
+// A blackout drains, and a wake in it is taken in (speed_switch.rs, `drain_blackout`, `wake_intake_ready`).
+ghost use mathlib.Core.Path.{_≡_};
+ghost use Rattle.speed_switch.specs.Blackout.{drained, latencyAfterDrain, latencyAfterWake, drainedOf, wokenOf};
+ghost use Rattle.console.specs.Set.{withSpeedSwitchBlackout, withSpeedSwitchWakeLatency};
+use console::Cgb;
+use console::WakeLatency;
+use countdown::step::less_one_if;
+
+// A flag, with the state after.
+pub struct Flagged {
+    pub flag: bool,
+    pub state: Cgb,
+}
+
+fn drain(blackout: u32, elapsed: u32) -> u32
+    ensures { λ r. ⌜ r ≡ drained elapsed blackout ⌝ }
+{
+    if blackout > elapsed {
+        blackout - elapsed
+    } else {
+        0
+    }
+}
+
+// A blackout that has run out forgets the wake in flight.
+fn latency_after_drain(ended: bool, latency: WakeLatency) -> WakeLatency
+    ensures { λ r. ⌜ r ≡ latencyAfterDrain ended latency ⌝ }
+{
+    if ended { WakeLatency::None } else { latency }
+}
+
+fn with_latency(s: Cgb, blackout: u32, latency: WakeLatency) -> Cgb
+    ensures { λ r. ⌜ r ≡ withSpeedSwitchBlackout blackout (withSpeedSwitchWakeLatency latency s) ⌝ }
+{
+    let vram_dma = s.vram_dma;
+    let extra_oam = s.extra_oam;
+    let vram = s.vram;
+    let console_state = s.console_state;
+    Cgb {
+        svbk: s.svbk,
+        key1_armed: s.key1_armed,
+        double_speed: s.double_speed,
+        dmg_compat: s.dmg_compat,
+        vram_dma: vram_dma,
+        speed_switch_blackout: blackout,
+        speed_switch_wake_latency: latency,
+        switch_relock_debit: s.switch_relock_debit,
+        ff72: s.ff72,
+        ff73: s.ff73,
+        ff74: s.ff74,
+        ff75: s.ff75,
+        extra_oam: extra_oam,
+        vram: vram,
+        console_state: console_state,
+    }
+}
+
+// The flag: the blackout is over.
+pub fn drain_blackout(s: Cgb, elapsed: u32) -> Flagged
+    ensures { λ r. ⌜ r ≡ drainedOf elapsed s ⌝ }
+{
+    let left = drain(s.speed_switch_blackout, elapsed);
+    let old = s.speed_switch_wake_latency;
+    let latency = latency_after_drain(left == 0, old);
+    let state = with_latency(s, left, latency);
+    Flagged {
+        flag: left == 0,
+        state: state,
+    }
+}
+
+// The first call arms one M-cycle of latency; a boundary steps it.
+fn latency_after_wake(latency: WakeLatency, mcycle_boundary: bool) -> u8
+    ensures { λ r. ⌜ r ≡ latencyAfterWake «mcycle_boundary» latency ⌝ }
+{
+    match latency {
+        WakeLatency::None => 1,
+        WakeLatency::Some(n) => less_one_if(mcycle_boundary, n),
+    }
+}
+
+// The flag: the wake is ready.
+pub fn wake_intake_ready(s: Cgb, mcycle_boundary: bool) -> Flagged
+    ensures { λ r. ⌜ r ≡ wokenOf «mcycle_boundary» s ⌝ }
+{
+    let old = s.speed_switch_wake_latency;
+    let n = latency_after_wake(old, mcycle_boundary);
+    let state = with_latency(s, s.speed_switch_blackout, WakeLatency::Some(n));
+    Flagged {
+        flag: n == 0,
+        state: state,
+    }
+}
