@@ -1,7 +1,7 @@
 // Lines of text: a label and what an answer says.
-use engine::access::ByteAnswer;
-use engine::access::DoneAnswer;
-use engine::query::TallyAnswer;
+use engine::answer::ByteAnswer;
+use engine::answer::DoneAnswer;
+use engine::answer::TallyAnswer;
 use libc::STDOUT_FILENO;
 
 fn text(bytes: &[u8]) {

@@ -3,12 +3,26 @@ ghost use mathlib.Core.Path.{_≡_};
 ghost use Rattle.console.specs.Reached.{unreached};
 use crate::Cgb;
 
+// A mode above 3.
+pub const MODE: u8 = 1;
 // A lent slice of another length.
 pub const LENGTH: u8 = 2;
+// A dot phase above 4.
+pub const PHASE: u8 = 3;
 // An address that is not in the call's map.
 pub const ADDRESS: u8 = 4;
+// A switch under hold.
+pub const HELD: u8 = 5;
 // A state that no run leaves.
 pub const STATE: u8 = 7;
+// A blackout is running.
+pub const BLACKOUT: u8 = 11;
+// KEY1 is not armed.
+pub const UNARMED: u8 = 12;
+// Downward with a ready block.
+pub const DEFERRED: u8 = 13;
+// A commit not already counted would raise granted from 255.
+pub const GRANTED: u8 = 14;
 
 impl Cgb {
     // Refusal 7: one of its six tests holds.

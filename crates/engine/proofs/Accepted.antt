@@ -14,8 +14,8 @@ use Rattle.registers.specs.Read.{byteAt}
 use Rattle.registers.specs.Write.{stateAt, storedOf, mapWriteOf}
 use Rattle.registers.specs.declared.WriteInput.{WriteInput}
 use Rattle.engine.specs.Access.{accessRefusal, readOf, writeOf}
-use Rattle.engine.specs.declared.access.ByteAnswer.the-variants as byte
-use Rattle.engine.specs.declared.access.DoneAnswer.the-variants as done
+use Rattle.engine.specs.declared.answer.ByteAnswer.the-variants as byte
+use Rattle.engine.specs.declared.answer.DoneAnswer.the-variants as done
 
 module _ (s : Cgb) (reached : unreached s ≡ false) (a : ℕ) (mapped : isMapped (placeOf a) ≡ true) where
   -- a mapped address of a state that passes 7, with work RAM of the right length, is not refused

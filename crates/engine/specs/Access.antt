@@ -16,11 +16,11 @@ use Rattle.registers.specs.Read.{byteAt}
 use Rattle.registers.specs.Write.{mapWriteOf, wramAfter}
 use Rattle.registers.specs.declared.WriteInput.{WriteInput}
 use Rattle.engine.specs.Answers.{Said, saying, doneSays}
-use Rattle.engine.specs.declared.access.ByteAnswer.{ByteAnswer}
-use Rattle.engine.specs.declared.access.ByteAnswer.the-variants as byte
-use Rattle.engine.specs.declared.access.DoneAnswer.{DoneAnswer}
-use Rattle.engine.specs.declared.access.DoneAnswer.the-variants as done
-use Rattle.engine.specs.declared.access.Written.{Written}
+use Rattle.engine.specs.declared.answer.ByteAnswer.{ByteAnswer}
+use Rattle.engine.specs.declared.answer.ByteAnswer.the-variants as byte
+use Rattle.engine.specs.declared.answer.DoneAnswer.{DoneAnswer}
+use Rattle.engine.specs.declared.answer.DoneAnswer.the-variants as done
+use Rattle.engine.specs.declared.answer.Done.{Done}
 
 -- the number of a read or a write of an address with n bytes of work RAM, or 0
 unfoldable pub accessRefusal : Cgb → ℕ → ℕ → ℕ
@@ -42,7 +42,7 @@ unfoldable pub readSaid : Cgb → List ℕ → ℕ → Said
 readSaid s wram a = saying (accessRefusal s (length wram) a) (byteAt s wram (placeOf a) ∷ [])
 
 -- answer and next state
-unfoldable pub writeOf : Cgb → WriteInput → ℕ → ℕ → Written
+unfoldable pub writeOf : Cgb → WriteInput → ℕ → ℕ → Done
 writeOf s w a n =
     record {
       answer = doneAnswer (accessRefusal s n a);
@@ -57,7 +57,7 @@ unfoldable pub writeSaid : Cgb → ℕ → ℕ → Said
 writeSaid s a n = saying (accessRefusal s n a) []
 
 -- a write's result, what its answer says, and the slice at exit, whole
-pub record Wrote (s : Cgb) (w : WriteInput) (a : ℕ) (wram : List ℕ) (r : Written) (last : List ℕ) : Type 0 where
+pub record Wrote (s : Cgb) (w : WriteInput) (a : ℕ) (wram : List ℕ) (r : Done) (last : List ℕ) : Type 0 where
   pub result : r ≡ writeOf s w a (length wram)
   pub says : doneSays (r .answer) ≡ writeSaid s a (length wram)
   pub memory : last ≡ writeWram s w a wram

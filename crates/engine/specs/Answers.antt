@@ -5,20 +5,35 @@ use mathlib.Core.Path.{_≡_}
 use mathlib.Core.Bool.{Bool, cond}
 use mathlib.Core.List.{List, [], _∷_}
 use lib.Dec.{eqb}
+use Rattle.console.specs.declared.Cgb.{Cgb}
 use Rattle.transfer.specs.declared.VramDmaStatus.{VramDmaStatus}
 use Rattle.transfer.specs.declared.VramDmaStatus.the-variants as dma
-use Rattle.engine.specs.declared.access.ByteAnswer.{ByteAnswer}
-use Rattle.engine.specs.declared.access.ByteAnswer.the-variants as byte
-use Rattle.engine.specs.declared.access.DoneAnswer.{DoneAnswer}
-use Rattle.engine.specs.declared.access.DoneAnswer.the-variants as done
-use Rattle.engine.specs.declared.query.ClaimAnswer.{ClaimAnswer}
-use Rattle.engine.specs.declared.query.ClaimAnswer.the-variants as claim
-use Rattle.engine.specs.declared.query.FlagAnswer.{FlagAnswer}
-use Rattle.engine.specs.declared.query.FlagAnswer.the-variants as flag
-use Rattle.engine.specs.declared.query.StatusAnswer.{StatusAnswer}
-use Rattle.engine.specs.declared.query.StatusAnswer.the-variants as status
-use Rattle.engine.specs.declared.query.TallyAnswer.{TallyAnswer}
-use Rattle.engine.specs.declared.query.TallyAnswer.the-variants as tally
+use Rattle.engine.specs.declared.answer.ByteAnswer.{ByteAnswer}
+use Rattle.engine.specs.declared.answer.ByteAnswer.the-variants as byte
+use Rattle.engine.specs.declared.answer.DoneAnswer.{DoneAnswer}
+use Rattle.engine.specs.declared.answer.DoneAnswer.the-variants as done
+use Rattle.engine.specs.declared.answer.ClaimAnswer.{ClaimAnswer}
+use Rattle.engine.specs.declared.answer.ClaimAnswer.the-variants as claim
+use Rattle.engine.specs.declared.answer.FlagAnswer.{FlagAnswer}
+use Rattle.engine.specs.declared.answer.FlagAnswer.the-variants as flag
+use Rattle.engine.specs.declared.answer.StatusAnswer.{StatusAnswer}
+use Rattle.engine.specs.declared.answer.StatusAnswer.the-variants as status
+use Rattle.engine.specs.declared.answer.TallyAnswer.{TallyAnswer}
+use Rattle.engine.specs.declared.answer.TallyAnswer.the-variants as tally
+use Rattle.engine.specs.declared.answer.PairAnswer.{PairAnswer}
+use Rattle.engine.specs.declared.answer.PairAnswer.the-variants as pair
+use Rattle.engine.specs.declared.answer.SwitchAnswer.{SwitchAnswer}
+use Rattle.engine.specs.declared.answer.SwitchAnswer.the-variants as switch
+use Rattle.engine.specs.declared.answer.ArbitrationAnswer.{ArbitrationAnswer}
+use Rattle.engine.specs.declared.answer.ArbitrationAnswer.the-variants as arbitration
+use Rattle.engine.specs.declared.answer.ConflictAnswer.{ConflictAnswer}
+use Rattle.engine.specs.declared.answer.ConflictAnswer.the-variants as conflict
+use Rattle.engine.specs.declared.answer.Done.{Done}
+use Rattle.engine.specs.declared.answer.Flagged.{Flagged}
+use Rattle.engine.specs.declared.answer.Handed.{Handed}
+use Rattle.engine.specs.declared.answer.Fell.{Fell}
+use Rattle.engine.specs.declared.answer.Switched.{Switched}
+use Rattle.engine.specs.declared.answer.Arbitrated.{Arbitrated}
 
 -- the number of a declined call, 0 where it is accepted, and the values that an accepted call gives
 pub record Said : Type 0 where
@@ -69,6 +84,56 @@ modeSays (dma.HBlank left source dest) = 2 ∷ left ∷ source ∷ dest ∷ []
 abbrev pub statusSays : StatusAnswer → Said
 statusSays (status.Status s) = accepted (modeSays s)
 statusSays (status.Refused n) = declined n
+
+-- 0 for none; else 1, the source and the destination
+abbrev pub pairSays : PairAnswer → Said
+pairSays (pair.Pair p) = accepted (1 ∷ p .source ∷ p .dest ∷ [])
+pairSays pair.None = accepted (0 ∷ [])
+pairSays (pair.Refused n) = declined n
+
+-- 0 none, 1 discarded, 2 cut
+abbrev pub switchSays : SwitchAnswer → Said
+switchSays switch.None = accepted (0 ∷ [])
+switchSays switch.Discarded = accepted (1 ∷ [])
+switchSays switch.Cut = accepted (2 ∷ [])
+switchSays (switch.Refused n) = declined n
+
+-- 0 clear, 1 contended, 2 stall
+abbrev pub arbitrationSays : ArbitrationAnswer → Said
+arbitrationSays arbitration.Clear = accepted (0 ∷ [])
+arbitrationSays arbitration.Contended = accepted (1 ∷ [])
+arbitrationSays arbitration.Stall = accepted (2 ∷ [])
+arbitrationSays (arbitration.Refused n) = declined n
+
+-- 0 for none; else 1 and the source
+abbrev pub conflictSays : ConflictAnswer → Said
+conflictSays (conflict.Source source) = accepted (1 ∷ source ∷ [])
+conflictSays conflict.None = accepted (0 ∷ [])
+conflictSays (conflict.Refused n) = declined n
+
+-- where the state stands beside the answer
+abbrev pub doneStateSays : Done → Said
+doneStateSays r = doneSays (r .answer)
+
+abbrev pub flaggedSays : Flagged → Said
+flaggedSays r = flagSays (r .answer)
+
+abbrev pub handedSays : Handed → Said
+handedSays r = pairSays (r .answer)
+
+-- a fall says whether it committed, and whether the claim stands
+abbrev pub fellSays : Fell → Said
+fellSays r = claimSays (r .answer)
+
+abbrev pub switchedSays : Switched → Said
+switchedSays r = switchSays (r .answer)
+
+abbrev pub arbitratedSays : Arbitrated → Said
+arbitratedSays r = arbitrationSays (r .answer)
+
+-- the state after a call: as before where it has a number
+abbrev pub kept : ℕ → Cgb → Cgb → Cgb
+kept number before after = cond (eqb number 0) after before
 
 -- what a call promises of its answer r: it is this one, and says this number and these values
 pub record Answers {A : Type 0} (told : A → Said) (answer : A) (said : Said) (r : A) : Type 0 where

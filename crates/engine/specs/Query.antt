@@ -9,15 +9,15 @@ use Rattle.console.specs.declared.Cgb.{Cgb}
 use Rattle.transfer.specs.Questions as transfer
 use Rattle.engine.specs.Access.{byteAnswer}
 use Rattle.engine.specs.Answers.{Said, saying, bitOf, Answers, flagSays, byteSays, tallySays, statusSays, claimSays, modeSays}
-use Rattle.engine.specs.declared.access.ByteAnswer.{ByteAnswer}
-use Rattle.engine.specs.declared.query.ClaimAnswer.{ClaimAnswer}
-use Rattle.engine.specs.declared.query.ClaimAnswer.the-variants as claim
-use Rattle.engine.specs.declared.query.FlagAnswer.{FlagAnswer}
-use Rattle.engine.specs.declared.query.FlagAnswer.the-variants as flag
-use Rattle.engine.specs.declared.query.StatusAnswer.{StatusAnswer}
-use Rattle.engine.specs.declared.query.StatusAnswer.the-variants as status
-use Rattle.engine.specs.declared.query.TallyAnswer.{TallyAnswer}
-use Rattle.engine.specs.declared.query.TallyAnswer.the-variants as tally
+use Rattle.engine.specs.declared.answer.ByteAnswer.{ByteAnswer}
+use Rattle.engine.specs.declared.answer.ClaimAnswer.{ClaimAnswer}
+use Rattle.engine.specs.declared.answer.ClaimAnswer.the-variants as claim
+use Rattle.engine.specs.declared.answer.FlagAnswer.{FlagAnswer}
+use Rattle.engine.specs.declared.answer.FlagAnswer.the-variants as flag
+use Rattle.engine.specs.declared.answer.StatusAnswer.{StatusAnswer}
+use Rattle.engine.specs.declared.answer.StatusAnswer.the-variants as status
+use Rattle.engine.specs.declared.answer.TallyAnswer.{TallyAnswer}
+use Rattle.engine.specs.declared.answer.TallyAnswer.the-variants as tally
 
 -- the number of a query, or 0
 unfoldable pub queryRefusal : Cgb → ℕ

@@ -2,27 +2,13 @@
 // its length is tested for every address.
 ghost use Rattle.engine.specs.Access.{readOf, readSaid, Wrote};
 ghost use Rattle.engine.specs.Answers.{Answers, byteSays};
+use crate::answer::ByteAnswer;
+use crate::answer::Done;
+use crate::answer::DoneAnswer;
 use console::Cgb;
 use console::refusal;
 use registers::MapRead;
 use registers::WriteInput;
-
-// A byte, or the number that the call is declined with.
-pub enum ByteAnswer {
-    Byte(u8),
-    Refused(u8),
-}
-
-// Done, or the number that the call is declined with.
-pub enum DoneAnswer {
-    Done,
-    Refused(u8),
-}
-
-pub struct Written {
-    pub answer: DoneAnswer,
-    pub state: Cgb,
-}
 
 pub fn read(state: Cgb, wram: &[u8], address: u16) -> ByteAnswer
     ensures { λ r. ⌜ Answers byteSays (readOf state (now (wram .entry)) address) (readSaid state (now (wram .entry)) address) r ⌝ }
@@ -40,17 +26,17 @@ pub fn read(state: Cgb, wram: &[u8], address: u16) -> ByteAnswer
     ByteAnswer::Byte(byte)
 }
 
-pub fn write(state: Cgb, wram: &mut [u8], address: u16, input: WriteInput) -> Written
+pub fn write(state: Cgb, wram: &mut [u8], address: u16, input: WriteInput) -> Done
     ensures { λ r. ⌜ Wrote state input address (now (wram .entry)) r (now (wram .exit)) ⌝ }
 {
     if state.unreached() {
-        return Written {
+        return Done {
             answer: DoneAnswer::Refused(refusal::STATE),
             state: state,
         };
     }
     if wram.len() != memory::WRAM {
-        return Written {
+        return Done {
             answer: DoneAnswer::Refused(refusal::LENGTH),
             state: state,
         };
@@ -58,12 +44,12 @@ pub fn write(state: Cgb, wram: &mut [u8], address: u16, input: WriteInput) -> Wr
     let written = registers::map_write_byte(state, wram, address, input);
     if written.mapped {
         let next = written.state;
-        return Written {
+        return Done {
             answer: DoneAnswer::Done,
             state: next,
         };
     }
-    Written {
+    Done {
         answer: DoneAnswer::Refused(refusal::ADDRESS),
         state: state,
     }

@@ -2,7 +2,13 @@
 // tests 7 and its own refusals in the paper's order, hands back what it was given where it declines,
 // and leaves the work to one function of a lower room.
 pub mod access;
+pub mod answer;
+pub mod fall;
+pub mod lcd;
+pub mod pair;
 pub mod query;
+pub mod shared_bus;
+pub mod speed;
 
 ghost use mathlib.Core.Path.{_≡_};
 ghost use Rattle.console.specs.PowerOn.{powerOnOf};

@@ -4,36 +4,13 @@ ghost use Rattle.engine.specs.Query.{AnswersTally, AnswersStatus, Answer
 ghost use Rattle.transfer.specs.Questions.{requestStanding, holdsCpu, seizesBus};
 ghost use Rattle.speed_switch.specs.Speed.{stepsPerDot, blackoutActive, dividerActive};
 ghost use Rattle.registers.specs.Map.{wramBank};
-use crate::access::ByteAnswer;
+use crate::answer::ByteAnswer;
+use crate::answer::ClaimAnswer;
+use crate::answer::FlagAnswer;
+use crate::answer::StatusAnswer;
+use crate::answer::TallyAnswer;
 use console::Cgb;
 use console::refusal;
-use transfer::VramDmaStatus;
-
-// The engine's pointers, what is left, and whether an escape is owed.
-pub enum TallyAnswer {
-    Tally {
-        source: u16,
-        dest: u16,
-        remaining: u16,
-        escape_byte: bool,
-    },
-    Refused(u8),
-}
-
-pub enum StatusAnswer {
-    Status(VramDmaStatus),
-    Refused(u8),
-}
-
-pub enum FlagAnswer {
-    Flag(bool),
-    Refused(u8),
-}
-
-pub enum ClaimAnswer {
-    Claim { committed: bool, standing: bool },
-    Refused(u8),
-}
 
 pub fn tally(state: Cgb) -> TallyAnswer
     ensures { λ r. ⌜ AnswersTally state r ⌝ }

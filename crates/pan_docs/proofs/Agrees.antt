@@ -26,7 +26,7 @@ use Rattle.registers.specs.declared.WriteInput.{WriteInput}
 use Rattle.hdma.proofs.Written.{keeps, arms, starts}
 use Rattle.registers.proofs.Places.{at-d}
 use Rattle.engine.specs.Access.{readOf, writeOf, accessRefusal}
-use Rattle.engine.specs.declared.access.ByteAnswer.the-variants.{Byte}
+use Rattle.engine.specs.declared.answer.ByteAnswer.the-variants.{Byte}
 use Rattle.engine.proofs.Accepted.{read-accepted, write-unlocked}
 use Rattle.pan_docs.specs.PanDocs as pan
 use Rattle.pan_docs.specs.Agreement.{CgbMode, Whole, after, Reads, Agreement, Difference}

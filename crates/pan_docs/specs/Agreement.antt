@@ -13,7 +13,7 @@ use Rattle.memory.specs.Lengths.{wramLength}
 use Rattle.transfer.specs.Questions.{writeAddress}
 use Rattle.estimate.specs.Estimate.{estimateOf}
 use Rattle.engine.specs.Access.{readOf, writeOf}
-use Rattle.engine.specs.declared.access.ByteAnswer.the-variants.{Byte}
+use Rattle.engine.specs.declared.answer.ByteAnswer.the-variants.{Byte}
 use Rattle.registers.specs.Map as port
 use Rattle.pan_docs.specs.PanDocs as pan
 

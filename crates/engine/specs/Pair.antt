@@ -1,0 +1,43 @@
+-- The next pair and the escape drain as calls (document 01, sections 3 and 4): 7, then what the engine gives.
+use mathlib.Core.List.{List, [], _∷_}
+use Prim.Native.Nat.{ℕ}
+use Rattle.console.specs.Refusals.{answered}
+use Rattle.console.specs.Set.{withVramDma}
+use Rattle.console.specs.declared.Cgb.{Cgb}
+use Rattle.transfer.specs.Pair.{nextByteOf, drainOf}
+use Rattle.transfer.specs.declared.pair.NextAnswer.{NextAnswer}
+use Rattle.transfer.specs.declared.pair.NextAnswer.the-variants as next
+use Rattle.transfer.specs.declared.pair.NextByte.{NextByte}
+use Rattle.engine.specs.Answers.{Said, saying, kept}
+use Rattle.engine.specs.Query.{queryRefusal}
+use Rattle.engine.specs.declared.answer.Handed.{Handed}
+use Rattle.engine.specs.declared.answer.PairAnswer.{PairAnswer}
+use Rattle.engine.specs.declared.answer.PairAnswer.the-variants.{Pair, None, Refused}
+
+abbrev pub pairAnswerOf : NextAnswer → PairAnswer
+pairAnswerOf (next.Pair p) = Pair p
+pairAnswerOf next.None = None
+
+abbrev pub pairValues : NextAnswer → List ℕ
+pairValues (next.Pair p) = 1 ∷ p .source ∷ p .dest ∷ []
+pairValues next.None = 0 ∷ []
+
+-- a call that gives what the engine hands out
+abbrev pub handedOf : Cgb → NextByte → Handed
+handedOf s n =
+    record {
+      answer = answered (queryRefusal s) Refused (pairAnswerOf (n .answer));
+      state = kept (queryRefusal s) s (withVramDma (n .dma) s);
+    }
+
+unfoldable pub nextPairOf : Cgb → Handed
+nextPairOf s = handedOf s (nextByteOf (s .«vram_dma»))
+
+unfoldable pub nextPairSaid : Cgb → Said
+nextPairSaid s = saying (queryRefusal s) (pairValues (nextByteOf (s .«vram_dma») .answer))
+
+unfoldable pub escapeDrainOf : Cgb → Handed
+escapeDrainOf s = handedOf s (drainOf (s .«vram_dma»))
+
+unfoldable pub escapeDrainSaid : Cgb → Said
+escapeDrainSaid s = saying (queryRefusal s) (pairValues (drainOf (s .«vram_dma») .answer))

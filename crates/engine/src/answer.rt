@@ -1,0 +1,100 @@
+// What the calls answer. Each has a variant for a declined call, with its number; where a call hands
+// back the state, that stands beside the answer, because an enum cannot hold the state's array.
+use console::Cgb;
+use transfer::VramDmaStatus;
+use transfer::pair::BytePair;
+
+pub enum DoneAnswer {
+    Done,
+    Refused(u8),
+}
+
+pub enum ByteAnswer {
+    Byte(u8),
+    Refused(u8),
+}
+
+pub enum FlagAnswer {
+    Flag(bool),
+    Refused(u8),
+}
+
+// The engine's pointers, what is left, and whether an escape is owed.
+pub enum TallyAnswer {
+    Tally {
+        source: u16,
+        dest: u16,
+        remaining: u16,
+        escape_byte: bool,
+    },
+    Refused(u8),
+}
+
+pub enum StatusAnswer {
+    Status(VramDmaStatus),
+    Refused(u8),
+}
+
+pub enum ClaimAnswer {
+    Claim { committed: bool, standing: bool },
+    Refused(u8),
+}
+
+pub enum PairAnswer {
+    Pair(BytePair),
+    None,
+    Refused(u8),
+}
+
+// What became of a latched block in an accepted switch.
+pub enum SwitchAnswer {
+    None,
+    Discarded,
+    Cut,
+    Refused(u8),
+}
+
+pub enum ArbitrationAnswer {
+    Clear,
+    Contended,
+    Stall,
+    Refused(u8),
+}
+
+// The source of the byte that a read collides with.
+pub enum ConflictAnswer {
+    Source(u16),
+    None,
+    Refused(u8),
+}
+
+pub struct Done {
+    pub answer: DoneAnswer,
+    pub state: Cgb,
+}
+
+pub struct Flagged {
+    pub answer: FlagAnswer,
+    pub state: Cgb,
+}
+
+pub struct Handed {
+    pub answer: PairAnswer,
+    pub state: Cgb,
+}
+
+// A fall answers with its own claim: both flags are false where nothing committed.
+pub struct Fell {
+    pub answer: ClaimAnswer,
+    pub state: Cgb,
+}
+
+pub struct Switched {
+    pub answer: SwitchAnswer,
+    pub state: Cgb,
+}
+
+pub struct Arbitrated {
+    pub answer: ArbitrationAnswer,
+    pub state: Cgb,
+}

@@ -1,0 +1,60 @@
+// The next pair and the escape drain (vram_dma.rs, `next_byte`; lib.rs, `vram_dma_drain_escape`).
+ghost use Rattle.engine.specs.Answers.{Answers, pairSays, handedSays};
+ghost use Rattle.engine.specs.Pair.{pairAnswerOf, nextPairOf, nextPairSaid, escapeDrainOf, escapeDrainSaid};
+ghost use mathlib.Core.Path.{_≡_};
+use crate::answer::Handed;
+use crate::answer::PairAnswer;
+use console::Cgb;
+use console::refusal;
+use transfer::pair::NextAnswer;
+
+fn handed(answer: NextAnswer) -> PairAnswer
+    ensures { λ r. ⌜ r ≡ pairAnswerOf answer ⌝ }
+{
+    let NextAnswer::Pair(pair) = answer else {
+        return PairAnswer::None;
+    };
+    PairAnswer::Pair(pair)
+}
+
+pub fn next_byte(state: Cgb) -> Handed
+    ensures { λ r. ⌜ Answers handedSays (nextPairOf state) (nextPairSaid state) r ⌝ }
+{
+    if state.unreached() {
+        return Handed {
+            answer: PairAnswer::Refused(refusal::STATE),
+            state: state,
+        };
+    }
+    let next = transfer::pair::next_byte(state.vram_dma);
+    let found = next.answer;
+    let answer = handed(found);
+    let dma = next.dma;
+    let mut after = state;
+    after.vram_dma = dma;
+    Handed {
+        answer: answer,
+        state: after,
+    }
+}
+
+pub fn vram_dma_drain_escape(state: Cgb) -> Handed
+    ensures { λ r. ⌜ Answers handedSays (escapeDrainOf state) (escapeDrainSaid state) r ⌝ }
+{
+    if state.unreached() {
+        return Handed {
+            answer: PairAnswer::Refused(refusal::STATE),
+            state: state,
+        };
+    }
+    let next = transfer::pair::drain_escape(state.vram_dma);
+    let found = next.answer;
+    let answer = handed(found);
+    let dma = next.dma;
+    let mut after = state;
+    after.vram_dma = dma;
+    Handed {
+        answer: answer,
+        state: after,
+    }
+}
