@@ -3,6 +3,7 @@
 //! original's answer, the state and the changed bytes of memory after.
 //!
 //!     MISSINGNO_SRC=.. cargo run --release -- vectors SEED COUNT [KINDS] > FILE
+//!     MISSINGNO_SRC=.. cargo run --release -- select SEED COUNT [KINDS] > FILE
 //!
 //! The originals name `crate::Cgb`, `crate::vram_dma` and so on, so they stand at this crate's root.
 
@@ -57,9 +58,10 @@ impl missingno_gb::Model for Cgb {
 
 fn main() {
     let words: Vec<String> = std::env::args().skip(1).collect();
-    let usage = "usage: oracle vectors SEED COUNT [KIND,KIND,..]";
+    let usage = "usage: oracle vectors|select SEED COUNT [KIND,KIND,..]";
     match words.first().map(String::as_str) {
         Some("vectors") => vectors::write(&words[1..], usage),
+        Some("select") => vectors::select(&words[1..], usage),
         _ => {
             eprintln!("{usage}");
             std::process::exit(2);

@@ -2,11 +2,11 @@
 //! fail refusal 7. One vector is 576 bytes: 0-15 the call's record, 16-31 the four lengths, 32-279 the state
 //! before, 280-311 the answer, 312-559 the state after, 560-575 up to four changed bytes of memory (which
 //! slice, or 0 for none; the index in two bytes; the value).
+use std::collections::HashSet;
 use std::io::{BufWriter, Write};
 
 use crate::calls::{Call, Oracle, kind};
 use crate::layout::SIZE;
-use crate::memory;
 use crate::random::Random;
 
 pub const RECORD: usize = 576;
@@ -247,47 +247,64 @@ fn record(oracle: &mut Oracle, call: &Call, before: &[u8; SIZE]) -> ([u8; RECORD
     (out, outcome.state)
 }
 
-pub fn write(words: &[String], usage: &str) {
-    let parsed = |k: usize| words.get(k).and_then(|w| w.parse::<u64>().ok());
-    let (Some(seed), Some(count)) = (parsed(0), parsed(1)) else {
-        eprintln!("{usage}");
-        std::process::exit(2);
-    };
-    let kinds: Vec<u8> = match words.get(2) {
-        Some(list) => list.split(',').map(|w| w.parse().expect(usage)).collect(),
-        None => (1..=kind::LAST).collect(),
-    };
+/// Makes vectors and hands each to `take`, until it has been given `count` or says that it has enough.
+fn generate(seed: u64, count: u64, kinds: &[u8], mut take: impl FnMut(&[u8; RECORD]) -> bool) {
     let mut r = Random::new(seed);
     let mut oracle = Oracle::new();
-    let mut out = BufWriter::new(std::io::stdout().lock());
-    let mut written = 0;
-    let _ = memory::CARTRIDGE;
-    while written < count {
-        if r.flag() {
-            // A list of calls from power-on.
-            let mut now = oracle.power_on(r.one_in(16));
-            let mut phase = 5;
-            for step in 0..64 + r.below(192) {
-                let c = likely(&mut r, &kinds, step, &mut phase);
-                let (bytes, after) = record(&mut oracle, &c, &now);
-                out.write_all(&bytes).unwrap();
-                now = after;
-                written += 1;
-                if written == count {
-                    break;
-                }
-            }
-        } else {
-            for _ in 0..128 {
-                let before = state(&mut r);
-                let c = call(&mut r, &kinds);
-                out.write_all(&record(&mut oracle, &c, &before).0).unwrap();
-                written += 1;
-                if written == count {
-                    break;
-                }
+    let mut given = 0;
+    while given < count {
+        let listed = r.flag();
+        let mut now = oracle.power_on(r.one_in(16));
+        let mut phase = 5;
+        for step in 0..if listed { 64 + r.below(192) } else { 128 } {
+            // A list of calls goes on from power-on; else each call has a state of its own.
+            let c = if listed { likely(&mut r, kinds, step, &mut phase) } else { call(&mut r, kinds) };
+            let before = if listed { now } else { state(&mut r) };
+            let (bytes, after) = record(&mut oracle, &c, &before);
+            now = after;
+            given += 1;
+            if !take(&bytes) || given == count {
+                break;
             }
         }
     }
+}
+
+struct Words {
+    seed: u64,
+    count: u64,
+    kinds: Vec<u8>,
+}
+
+fn words(words: &[String], usage: &str) -> Words {
+    let parsed = |k: usize| words.get(k).and_then(|w| w.parse::<u64>().ok());
+    let listed = |list: &String| list.split(',').map(|w| w.parse().ok()).collect::<Option<Vec<u8>>>();
+    let kinds = words.get(2).map_or(Some((1..=kind::LAST).collect()), listed);
+    match (parsed(0), parsed(1), kinds) {
+        (Some(seed), Some(count), Some(kinds)) => Words { seed, count, kinds },
+        _ => {
+            eprintln!("{usage}");
+            std::process::exit(2);
+        }
+    }
+}
+
+pub fn write(given: &[String], usage: &str) {
+    let w = words(given, usage);
+    let mut out = BufWriter::new(std::io::stdout().lock());
+    generate(w.seed, w.count, &w.kinds, |bytes| out.write_all(bytes).is_ok());
     out.flush().unwrap();
+}
+
+/// The first vector of each sort among `count`: kind, refusal, answer, and which bytes of the state changed.
+pub fn select(given: &[String], usage: &str) {
+    let w = words(given, usage);
+    let mut out = BufWriter::new(std::io::stdout().lock());
+    let mut seen = HashSet::new();
+    generate(w.seed, w.count, &w.kinds, |bytes| {
+        let changed: Vec<bool> = (0..91).map(|k| bytes[32 + k] != bytes[312 + k]).collect();
+        !seen.insert((bytes[0], bytes[280], bytes[281], changed)) || out.write_all(bytes).is_ok()
+    });
+    out.flush().unwrap();
+    eprintln!("{} of {} vectors selected", seen.len(), w.count);
 }

@@ -1,0 +1,7 @@
+pub mod Digits
+pub mod Runs
+pub mod Laid
+pub mod Equal
+pub mod Back
+pub mod Within
+pub mod RoundTrip

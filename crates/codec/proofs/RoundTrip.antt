@@ -1,0 +1,26 @@
+-- The round trip both ways (specs, `RoundTrip`). Assumes nothing.
+use Prim.Native.Nat.{ℕ}
+use mathlib.Core.Path.{_≡_, ap, _∙_}
+use mathlib.Core.List.{List}
+use Rattle.codec.proofs.Back.{state-back}
+use Rattle.codec.proofs.Equal.{same-self, same-equal}
+use Rattle.codec.proofs.Laid.{length-is}
+use Rattle.codec.proofs.Within.{state-within}
+use Rattle.codec.specs.Codec.{encodeOf, sameBytes, stateOf, decodeOf}
+use Rattle.codec.specs.RoundTrip.{RoundTrip}
+use Rattle.console.specs.declared.Cgb.{Cgb}
+
+pub round-trip : RoundTrip
+unfolding decodeOf
+round-trip =
+    record {
+      sized = λ s h. length-is s (h .«extra_oam» .long);
+      back =
+          λ s h i.
+          record {
+            valid = (ap (λ (t : Cgb). sameBytes (encodeOf t) (encodeOf s)) (state-back s h) ∙ same-self (encodeOf s)) i;
+            state = state-back s h i;
+          };
+      canonical = λ b e. same-equal (encodeOf (stateOf b)) b e;
+      fits = state-within;
+    }

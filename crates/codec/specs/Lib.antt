@@ -1,0 +1,9 @@
+pub mod Number
+pub mod Cursor
+pub mod Block
+pub mod Arb
+pub mod Oam
+pub mod Rest
+pub mod Codec
+pub mod Fits
+pub mod RoundTrip

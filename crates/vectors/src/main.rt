@@ -1,0 +1,77 @@
+// Replays vectors that the original made (differential/): each is a call, the state before, the
+// original's answer, the state after and the bytes of memory that it changed. Any difference is a line.
+mod call;
+mod fields;
+mod wram;
+
+use libc::STDIN_FILENO;
+use libc::STDOUT_FILENO;
+
+// What has been replayed.
+struct Tally {
+    records: u64,
+    differences: u64,
+}
+
+fn number(label: &[u8], n: u64, end: &[u8]) {
+    let mut digits = [0u8; 20];
+    let k = io::decimal(n, &mut digits);
+    io::write_all(STDOUT_FILENO, label);
+    io::write_all(STDOUT_FILENO, &digits[0..k]);
+    io::write_all(STDOUT_FILENO, end);
+}
+
+// The first twenty differences are told; all are counted.
+fn differs(t: Tally, kind: u8) {
+    if t.differences < 20 {
+        number(b"record ", t.records, b", kind ");
+        number(b"", kind as u64, b" differs\n");
+    }
+}
+
+fn one_more(n: u64) -> u64 {
+    if n < 0xFFFF_FFFF_FFFF_FFFF { n + 1 } else { n }
+}
+
+fn replay(t: Tally, record: &[u8; 576], memory: &mut [u8]) -> Tally {
+    let same = call::agrees(record, memory);
+    if !same {
+        differs(t, record[0]);
+    }
+    let missed = if same {
+        t.differences
+    } else {
+        one_more(t.differences)
+    };
+    Tally {
+        records: one_more(t.records),
+        differences: missed,
+    }
+}
+
+// A number of turns that no input reaches: a loop has to end.
+fn replay_all(start: Tally, memory: &mut [u8]) -> Tally {
+    let mut t = start;
+    let mut turns: u64 = 1_000_000_000_000;
+    let mut record = [0u8; 576];
+    while turns > 0 {
+        let got = io::read_full(STDIN_FILENO, &mut record);
+        if got < 576 {
+            return t;
+        }
+        t = replay(t, &record, memory);
+        turns -= 1;
+    }
+    t
+}
+
+fn main() {
+    let mut memory = [0u8; 32769];
+    let start = Tally {
+        records: 0,
+        differences: 0,
+    };
+    let end = replay_all(start, &mut memory);
+    number(b"", end.records, b" records, ");
+    number(b"", end.differences, b" differ\n");
+}
