@@ -2,3 +2,4 @@ pub mod Questions
 pub mod Latch
 pub mod Pair
 pub mod Conflict
+pub mod Steps
