@@ -1,3 +1,4 @@
 pub mod Speed
 pub mod Switch
 pub mod Blackout
+pub mod Steps
