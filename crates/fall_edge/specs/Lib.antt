@@ -1,3 +1,4 @@
 pub mod View
 pub mod Stages
 pub mod Fall
+pub mod Steps
