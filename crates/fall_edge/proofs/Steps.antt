@@ -137,16 +137,16 @@ module _ (v : View) (d : VramDma) where
 
 -- ---- the course of a fall
 module _ (i : FallInput) (double : Bool) (d : VramDma) where
-  abbrev v : View
+  abbrev pub v : View
   v = viewOf i double d
 
-  abbrev s : VramDma
+  abbrev pub s : VramDma
   s = startedOf v d
 
-  abbrev t : VramDma
+  abbrev pub t : VramDma
   t = blindsOf v s
 
-  data Course : Type 0 where
+  pub data Course : Type 0 where
     settled : settles i d ≡ true → fallOf i double d ≡ fell noClaim (settledOf (eqb (i .mode) 0) d) → Course
     gated : settles i d ≡ false → gates i ≡ true → fallOf i double d ≡ fell noClaim (gatedOf v s) → Course
     overflowed : settles i d ≡ false → gates i ≡ false → overflows v t ≡ true → fallOf i double d ≡ refusedOf d → Course
@@ -169,7 +169,7 @@ module _ (i : FallInput) (double : Bool) (d : VramDma) where
   begin true p = settled p (rw p)
   begin false p = run (gates i) refl p
 
-  course : Course
+  pub course : Course
   course = begin (settles i d) refl
 
   -- ---- each sentence, along the course
@@ -253,7 +253,7 @@ module _ (i : FallInput) (double : Bool) (d : VramDma) where
   commit (served p g o e) c =
       let k : commits v t ≡ true = sym (ap (λ (f : Fallen). f .claim .committed) e) ∙ c in (o, k, rw k at e)
 
-  committed-step :
+  pub committed-step :
       fallOf i double d .claim .committed ≡ true →
       (fallOf i double d .dma .block .remaining ≡ 16) ×
       (fallOf i double d .dma .block .taken ≡ true) ×

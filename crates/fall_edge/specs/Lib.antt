@@ -2,3 +2,4 @@ pub mod View
 pub mod Stages
 pub mod Fall
 pub mod Steps
+pub mod Once
