@@ -3,3 +3,4 @@ pub mod Stages
 pub mod Fall
 pub mod Steps
 pub mod Once
+pub mod StageSteps
