@@ -8,7 +8,9 @@ use borrow.Author.Tests.{ltb-false, le-ltb, eq-eqb, eqb-true, not-false}
 use Rattle.console.specs.declared.Cgb.{Cgb}
 use Rattle.console.specs.Modes.{isIdle}
 use Rattle.console.specs.PowerOn.{powerOnOf, dmaAtRest}
-use Rattle.console.specs.Reached.{anyOf, unreached, unreachedTests, Reached}
+use Rattle.console.specs.Reached.{anyOf, unreached, unreachedTests, Reached, Sound}
+use Rattle.console.specs.Set.{withVramDma}
+use Rattle.console.specs.declared.vram_dma.VramDma.{VramDma}
 
 neither : (a b : Bool) → (a || b) ≡ false → (a ≡ false) × (b ≡ false)
 neither false b e = (refl, e)
@@ -71,3 +73,11 @@ passes s r =
 pub power-on-passes : (compat : Bool) → unreached (powerOnOf compat) ≡ false
 unfolding unreached powerOnOf dmaAtRest
 power-on-passes compat = refl
+
+pub sound : (s : Cgb) → Reached s → Sound (s .«vram_dma»)
+sound s r = record { quota = r .quota; block = r .block; left = r .left; idle = r .idle }
+
+-- a state with a sound engine in place of its own still passes
+pub reached-with : (s : Cgb) (d : VramDma) → Reached s → Sound d → Reached (withVramDma d s)
+reached-with s d r k =
+    record { quota = k .quota; block = k .block; left = k .left; svbk = r .svbk; bank = r .bank; idle = k .idle }

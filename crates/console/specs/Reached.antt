@@ -8,6 +8,7 @@ use lib.Dec.{ltb, eqb}
 use Rattle.console.specs.Modes.{isIdle}
 use Rattle.console.specs.declared.Cgb.{Cgb}
 use Rattle.console.specs.declared.vram_dma.TransferMode.{TransferMode}
+use Rattle.console.specs.declared.vram_dma.VramDma.{VramDma}
 
 -- whether one of the tests holds
 abbrev pub anyOf : List Bool → Bool
@@ -41,3 +42,10 @@ abbrev pub Reached : Cgb → Type 0
 Reached s =
     Within (s .«vram_dma» .cursor .quota) (s .«vram_dma» .block .remaining) (s .«vram_dma» .cursor .remaining) (s .svbk)
     (s .vram .selected) (s .«vram_dma» .cursor .mode)
+
+-- the part of it that the engine can change: four of the six
+pub record Sound (d : VramDma) : Type 0 where
+  pub quota : d .cursor .quota ≤ 2
+  pub block : d .block .remaining ≤ 16
+  pub left : d .cursor .remaining ≤ 2048
+  pub idle : d .cursor .remaining ≡ 0 → isIdle (d .cursor .mode) ≡ true
