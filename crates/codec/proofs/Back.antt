@@ -1,10 +1,10 @@
 -- What a state's bytes read as is that state, part for part. Assumes nothing.
 use Prim.Native.Nat.{ℕ, zero, suc, _+_}
-use native.Mathlib.Nat.{suc-add, add-suc}
+use native.Mathlib.Nat.{add-suc}
 use mathlib.Core.Path.{_≡_, refl, sym, ap, _∙_}
 use mathlib.Core.Bool.{Bool, true, false}
 use mathlib.Core.List.{List, [], _∷_, _++_, append-assoc}
-use lib.ListN.{length, getD, drop, replicate}
+use lib.ListN.{length, drop, replicate}
 use lib.Seq.{getD-drop, drop-at}
 use lib.Dec.{eqb}
 use mir.Val.{boolByte}
@@ -14,7 +14,7 @@ use Rattle.codec.specs.Cursor.{modeNumber, modeOf, cursorBytes, cursorOf
 use Rattle.codec.specs.Block.{blockBytes, blockOf}
 use Rattle.codec.specs.Arb.{arbBytes, arbOf}
 use Rattle.codec.specs.Oam.{oamBytes, oamOf}
-use Rattle.codec.specs.Rest.{latencyTag, latencyValue, latencyOf, registerBytes, bankBytes, registersOf, consoleOf}
+use Rattle.codec.specs.Rest.{latencyTag, latencyValue, latencyOf, registerBytes, bankBytes, consoleOf, restOf}
 use Rattle.codec.specs.Codec.{encodeOf, dmaOf, stateOf}
 use Rattle.codec.specs.Fits.{Fits}
 use Rattle.console.specs.declared.Cgb.{Cgb}
@@ -155,7 +155,7 @@ module _ (s : Cgb) (h : Fits s) where
       }
 
   pub state-back : stateOf (encodeOf s) ≡ s
-  unfolding encodeOf cursorBytes blockBytes arbBytes oamBytes registerBytes bankBytes past registersOf dmaOf stateOf
+  unfolding encodeOf cursorBytes blockBytes arbBytes oamBytes registerBytes bankBytes past restOf dmaOf stateOf
   state-back =
       λ i.
       record {

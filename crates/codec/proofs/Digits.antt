@@ -1,12 +1,12 @@
 -- Numbers and their digits of base 256: one law for every width. Assumes nothing.
-use Prim.Native.Nat.{ℕ, zero, suc, _+_, _*_, _/_, _%_, _^_, _<_}
-use mathlib.Core.Path.{_≡_, refl}
+use Prim.Native.Nat.{ℕ, zero, suc, _/_, _%_, _^_, _<_}
+use mathlib.Core.Path.{_≡_}
 use mathlib.Core.List.{List}
 use mir.Syntax.{w8}
 use mir.Val.{Fits}
 use native.Mathlib.Nat.{pow-succ'}
 use native.Mathlib.Omega.{arith}
-use Rattle.codec.specs.Number.{digits, number, byteAt, bytesAt, numberAt}
+use Rattle.codec.specs.Number.{digits, number, byteAt, numberAt}
 
 pub low-fits : (x : ℕ) → Fits w8 (x % 256)
 low-fits x = omega arith

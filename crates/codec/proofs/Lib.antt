@@ -3,5 +3,5 @@ pub mod Runs
 pub mod Laid
 pub mod Equal
 pub mod Back
-pub mod Within
+pub mod Bounds
 pub mod RoundTrip

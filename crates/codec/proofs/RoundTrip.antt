@@ -1,11 +1,9 @@
 -- The round trip both ways (specs, `RoundTrip`). Assumes nothing.
-use Prim.Native.Nat.{ℕ}
-use mathlib.Core.Path.{_≡_, ap, _∙_}
-use mathlib.Core.List.{List}
+use mathlib.Core.Path.{ap, _∙_}
 use Rattle.codec.proofs.Back.{state-back}
 use Rattle.codec.proofs.Equal.{same-self, same-equal}
 use Rattle.codec.proofs.Laid.{length-is}
-use Rattle.codec.proofs.Within.{state-within}
+use Rattle.codec.proofs.Bounds.{state-within}
 use Rattle.codec.specs.Codec.{encodeOf, sameBytes, stateOf, decodeOf}
 use Rattle.codec.specs.RoundTrip.{RoundTrip}
 use Rattle.console.specs.declared.Cgb.{Cgb}

@@ -4,12 +4,11 @@ use mathlib.Core.Bool.{Bool, true, false, _&&_}
 use mathlib.Core.List.{List, [], _∷_, _++_}
 use lib.ListN.{replicate}
 use lib.Dec.{eqb}
-use Rattle.codec.specs.Number.{byteAt, bytesAt}
 use Rattle.codec.specs.Cursor.{cursorBytes, cursorOf}
 use Rattle.codec.specs.Block.{blockBytes, blockOf}
 use Rattle.codec.specs.Arb.{arbBytes, arbOf}
 use Rattle.codec.specs.Oam.{oamBytes, oamOf}
-use Rattle.codec.specs.Rest.{registerBytes, bankBytes, latencyOf, registersOf, consoleOf}
+use Rattle.codec.specs.Rest.{registerBytes, bankBytes, restOf}
 use Rattle.codec.specs.declared.Decoded.{Decoded}
 use Rattle.console.specs.declared.Cgb.{Cgb}
 use Rattle.console.specs.declared.vram_dma.VramDma.{VramDma}
@@ -31,24 +30,7 @@ dmaOf b = record { cursor = cursorOf b; block = blockOf b; arb = arbOf b; oam = 
 
 -- what the fields' bytes read as
 unfoldable pub stateOf : List ℕ → Cgb
-stateOf b =
-    record {
-      svbk = registersOf b .svbk;
-      «key1_armed» = registersOf b .«key1_armed»;
-      «double_speed» = registersOf b .«double_speed»;
-      «dmg_compat» = registersOf b .«dmg_compat»;
-      «vram_dma» = dmaOf b;
-      «speed_switch_blackout» = registersOf b .blackout;
-      «speed_switch_wake_latency» = latencyOf (byteAt b 49) (byteAt b 50);
-      «switch_relock_debit» = registersOf b .relock;
-      ff72 = registersOf b .ff72;
-      ff73 = registersOf b .ff73;
-      ff74 = registersOf b .ff74;
-      ff75 = registersOf b .ff75;
-      «extra_oam» = bytesAt b 56 24;
-      vram = record { selected = byteAt b 80 };
-      «console_state» = consoleOf b;
-    }
+stateOf b = restOf b (dmaOf b)
 
 abbrev pub sameBytes : List ℕ → List ℕ → Bool
 sameBytes [] [] = true

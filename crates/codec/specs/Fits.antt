@@ -6,7 +6,6 @@ use lib.ListN.{length}
 use Rattle.codec.specs.Number.{byteAt}
 use Rattle.codec.specs.Rest.{latencyValue}
 use Rattle.console.specs.declared.Cgb.{Cgb}
-use Rattle.console.specs.declared.CgbConsoleState.{CgbConsoleState}
 use Rattle.console.specs.declared.vram_dma.HaltArbiter.{HaltArbiter}
 use Rattle.console.specs.declared.vram_dma.HblankBlock.{HblankBlock}
 use Rattle.console.specs.declared.vram_dma.TransferCursor.{TransferCursor}

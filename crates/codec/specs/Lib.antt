@@ -7,3 +7,4 @@ pub mod Rest
 pub mod Codec
 pub mod Fits
 pub mod RoundTrip
+pub mod Inner

@@ -5,11 +5,11 @@ use mathlib.Core.List.{List, [], _∷_, _++_}
 use lib.Dec.{eqb}
 use mir.Val.{boolByte}
 use Rattle.codec.specs.Number.{digits, byteAt, numberAt, flagAt, bytesAt}
-use Rattle.codec.specs.declared.rest.Registers.{Registers}
 use Rattle.console.specs.declared.Cgb.{Cgb}
 use Rattle.console.specs.declared.CgbConsoleState.{CgbConsoleState}
 use Rattle.console.specs.declared.WakeLatency.{WakeLatency}
 use Rattle.console.specs.declared.WakeLatency.the-variants.{None, Some}
+use Rattle.console.specs.declared.vram_dma.VramDma.{VramDma}
 
 abbrev pub latencyTag : WakeLatency → ℕ
 latencyTag None = 0
@@ -22,7 +22,7 @@ latencyValue (Some n) = n
 abbrev pub latencyOf : ℕ → ℕ → WakeLatency
 latencyOf tag value = cond (eqb tag 0) None (Some value)
 
--- bytes 41 to 55; the extra OAM follows
+-- bytes 41 to 55
 unfoldable pub registerBytes : Cgb → List ℕ
 registerBytes s =
     s .svbk ∷
@@ -38,7 +38,7 @@ registerBytes s =
     s .ff74 ∷
     s .ff75 ∷ []
 
--- bytes 80 to 90
+-- bytes 80 to 90, after the extra OAM
 unfoldable pub bankBytes : ℕ → CgbConsoleState → List ℕ
 bankBytes selected k =
     selected ∷
@@ -46,24 +46,30 @@ bankBytes selected k =
     boolByte (k .«vram_dma_claim» .committed) ∷
     boolByte (k .«vram_dma_claim» .standing) ∷ []
 
-unfoldable pub registersOf : List ℕ → Registers
-registersOf b =
-    record {
-      svbk = byteAt b 41;
-      «key1_armed» = flagAt b 42;
-      «double_speed» = flagAt b 43;
-      «dmg_compat» = flagAt b 44;
-      blackout = numberAt b 45 4;
-      relock = flagAt b 51;
-      ff72 = byteAt b 52;
-      ff73 = byteAt b 53;
-      ff74 = byteAt b 54;
-      ff75 = byteAt b 55;
-    }
-
 unfoldable pub consoleOf : List ℕ → CgbConsoleState
 consoleOf b =
     record {
       «blackout_anchor» = numberAt b 81 8;
       «vram_dma_claim» = record { committed = flagAt b 89; standing = flagAt b 90 };
+    }
+
+-- the console, with what the transfer engine's bytes read as
+unfoldable pub restOf : List ℕ → VramDma → Cgb
+restOf b dma =
+    record {
+      svbk = byteAt b 41;
+      «key1_armed» = flagAt b 42;
+      «double_speed» = flagAt b 43;
+      «dmg_compat» = flagAt b 44;
+      «vram_dma» = dma;
+      «speed_switch_blackout» = numberAt b 45 4;
+      «speed_switch_wake_latency» = latencyOf (byteAt b 49) (byteAt b 50);
+      «switch_relock_debit» = flagAt b 51;
+      ff72 = byteAt b 52;
+      ff73 = byteAt b 53;
+      ff74 = byteAt b 54;
+      ff75 = byteAt b 55;
+      «extra_oam» = bytesAt b 56 24;
+      vram = record { selected = byteAt b 80 };
+      «console_state» = consoleOf b;
     }

@@ -5,7 +5,7 @@ ghost use Rattle.codec.specs.Block.{blockBytes, blockOf};
 use crate::number::eight_at;
 use crate::number::in_eight;
 use crate::number::of_eight;
-use crate::place;
+use crate::run::place;
 use console::vram_dma::HblankBlock;
 use countdown::Countdown;
 

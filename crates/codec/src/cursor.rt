@@ -3,9 +3,9 @@ ghost use mathlib.Core.Path.{_≡_};
 ghost use lib.Seq.{sets};
 ghost use Rattle.codec.specs.Cursor.{modeNumber, modeOf, cursorBytes, cursorOf};
 use crate::number::eight_at;
-use crate::number::in_two;
+use crate::number::in_eight;
 use crate::number::of_two;
-use crate::place;
+use crate::run::place;
 use console::vram_dma::TransferCursor;
 use console::vram_dma::TransferMode;
 
@@ -34,11 +34,11 @@ fn mode_of(x: u8) -> TransferMode
 pub(crate) fn put_cursor(out: &mut [u8; 248], c: TransferCursor)
     ensures { λ _. ⌜ now (out .exit) ≡ sets (now (out .entry)) 0 (cursorBytes c) ⌝ }
 {
-    let source = in_two(c.source);
-    let dest = in_two(c.dest);
+    let source = in_eight(c.source as u64);
+    let dest = in_eight(c.dest as u64);
     let m = c.mode;
     let mode = mode_number(m);
-    let remaining = in_two(c.remaining);
+    let remaining = in_eight(c.remaining as u64);
     let part = [
         source.b0,
         source.b1,

@@ -5,12 +5,11 @@ mod cursor;
 mod number;
 mod oam;
 mod rest;
+mod run;
 
 ghost use mathlib.Core.Path.{_≡_};
-ghost use Prim.Native.Nat.{_+_, _≤_};
-ghost use lib.ListN.{length};
-ghost use lib.Seq.{sets};
-ghost use Rattle.codec.specs.Codec.{encodeOf, sameBytes, dmaOf, stateOf, decodeOf};
+ghost use Rattle.codec.specs.Codec.{encodeOf, dmaOf, stateOf, decodeOf};
+ghost use Rattle.codec.specs.Fits.{Fits};
 use arb::arb_of;
 use arb::put_arb;
 use block::block_of;
@@ -24,27 +23,18 @@ use oam::oam_of;
 use oam::put_oam;
 use rest::console_of;
 use rest::extra_of;
+use rest::into_tagged;
 use rest::latency_of;
 use rest::put_bank;
 use rest::put_extra;
 use rest::put_registers;
 use rest::registers_of;
+use run::same;
 
-// What bytes read as, and whether they are exactly what `encode` writes of it.
+// What bytes read as, and whether they are canonical: exactly what `encode` writes of that.
 pub struct Decoded {
     pub valid: bool,
     pub state: Cgb,
-}
-
-fn place(out: &mut [u8; 248], at: usize, part: &[u8])
-    requires { ⌜ at + length (now part) ≤ 248 ⌝ }
-    ensures { λ _. ⌜ now (out .exit) ≡ sets (now (out .entry)) at (now (part .entry)) ⌝ }
-{
-    let mut i: usize = 0;
-    while i < part.len() {
-        out[at + i] = part[i];
-        i += 1;
-    }
 }
 
 pub fn encode(state: Cgb) -> [u8; 248]
@@ -65,19 +55,6 @@ pub fn encode(state: Cgb) -> [u8; 248]
     let console = state.console_state;
     put_bank(&mut out, state.vram.selected, console);
     out
-}
-
-// No exit at the first difference: a loop of one shape is fast.
-fn same(a: [u8; 248], b: [u8; 248]) -> bool
-    ensures { λ r. ⌜ r ≡ sameBytes a b ⌝ }
-{
-    let mut equal = true;
-    let mut i: usize = 0;
-    while i < 248 {
-        equal = equal & (a[i] == b[i]);
-        i += 1;
-    }
-    equal
 }
 
 fn dma_of(b: &[u8; 248]) -> VramDma
@@ -122,4 +99,13 @@ pub fn decode(bytes: [u8; 248]) -> Decoded
         valid: same(encode(state), bytes),
         state: state,
     }
+}
+
+// What it ensures holds of every state that code can hold, so the laws of the round trip
+// (specs/RoundTrip.antt) speak of all of them.
+fn within(state: Cgb)
+    ensures { λ _. ⌜ Fits state ⌝ }
+{
+    let l = state.speed_switch_wake_latency;
+    let _latency = into_tagged(l);
 }

@@ -1,20 +1,10 @@
-// Numbers of several bytes, the lowest first.
+// Numbers of several bytes, the lowest first; and eight bytes at a time, since a struct's fields are
+// quicker to prove about than an array's elements.
 ghost use mathlib.Core.Path.{_≡_};
 ghost use Prim.Native.Nat.{_+_, _≤_};
 ghost use mathlib.Core.List.{[], _∷_};
-ghost use Rattle.codec.specs.Number.{twoOf, fourOf, eightOf, eightAt, number};
-
-pub(crate) struct Two {
-    pub b0: u8,
-    pub b1: u8,
-}
-
-pub(crate) struct Four {
-    pub b0: u8,
-    pub b1: u8,
-    pub b2: u8,
-    pub b3: u8,
-}
+ghost use Rattle.codec.specs.Number.{number};
+ghost use Rattle.codec.specs.Inner.{eightOf, eightAt};
 
 pub(crate) struct Eight {
     pub b0: u8,
@@ -27,29 +17,7 @@ pub(crate) struct Eight {
     pub b7: u8,
 }
 
-pub(crate) fn in_two(x: u16) -> Two
-    ensures { λ r. ⌜ r ≡ twoOf x ⌝ }
-{
-    Two {
-        b0: (x % 256) as u8,
-        b1: (x / 256 % 256) as u8,
-    }
-}
-
-pub(crate) fn in_four(x: u32) -> Four
-    ensures { λ r. ⌜ r ≡ fourOf x ⌝ }
-{
-    let x1 = x / 256;
-    let x2 = x1 / 256;
-    let x3 = x2 / 256;
-    Four {
-        b0: (x % 256) as u8,
-        b1: (x1 % 256) as u8,
-        b2: (x2 % 256) as u8,
-        b3: (x3 % 256) as u8,
-    }
-}
-
+// A narrower number takes as many of them as it has bytes.
 pub(crate) fn in_eight(x: u64) -> Eight
     ensures { λ r. ⌜ r ≡ eightOf x ⌝ }
 {

@@ -2,7 +2,7 @@
 ghost use mathlib.Core.Path.{_≡_};
 ghost use lib.Seq.{sets};
 ghost use Rattle.codec.specs.Oam.{oamBytes, oamOf};
-use crate::place;
+use crate::run::place;
 use console::vram_dma::OamContention;
 
 pub(crate) fn put_oam(out: &mut [u8; 248], o: OamContention)

@@ -3,33 +3,31 @@ ghost use mathlib.Core.Path.{_≡_};
 ghost use lib.ListN.{length};
 ghost use lib.Seq.{sets};
 ghost use Rattle.codec.specs.Number.{byteAt, bytesAt};
-ghost use Rattle.codec.specs.Rest.{latencyTag, latencyValue, latencyOf, registerBytes, bankBytes, registersOf, consoleOf};
+ghost use Rattle.codec.specs.Rest.{latencyOf, registerBytes, bankBytes, consoleOf};
+ghost use Rattle.codec.specs.Codec.{stateOf};
+ghost use Rattle.codec.specs.Inner.{taggedOf, registersOf};
 use crate::number::eight_at;
 use crate::number::in_eight;
-use crate::number::in_four;
 use crate::number::of_eight;
 use crate::number::of_four;
-use crate::place;
+use crate::run::place;
 use console::Cgb;
 use console::CgbConsoleState;
 use console::VramDmaClaim;
 use console::WakeLatency;
 
-fn latency_tag(l: WakeLatency) -> u8
-    ensures { λ r. ⌜ r ≡ latencyTag l ⌝ }
-{
-    match l {
-        WakeLatency::None => 0,
-        WakeLatency::Some(_) => 1,
-    }
+// The wake latency as its two bytes.
+pub(crate) struct Tagged {
+    pub tag: u8,
+    pub value: u8,
 }
 
-fn latency_value(l: WakeLatency) -> u8
-    ensures { λ r. ⌜ r ≡ latencyValue l ⌝ }
+pub(crate) fn into_tagged(l: WakeLatency) -> Tagged
+    ensures { λ r. ⌜ r ≡ taggedOf l ⌝ }
 {
     match l {
-        WakeLatency::None => 0,
-        WakeLatency::Some(n) => n,
+        WakeLatency::None => Tagged { tag: 0, value: 0 },
+        WakeLatency::Some(n) => Tagged { tag: 1, value: n },
     }
 }
 
@@ -46,10 +44,9 @@ pub(crate) fn latency_of(b: &[u8; 248]) -> WakeLatency
 pub(crate) fn put_registers(out: &mut [u8; 248], s: Cgb)
     ensures { λ _. ⌜ now (out .exit) ≡ sets (now (out .entry)) 41 (registerBytes s) ⌝ }
 {
-    let latency = s.speed_switch_wake_latency;
-    let tag = latency_tag(latency);
-    let value = latency_value(latency);
-    let blackout = in_four(s.speed_switch_blackout);
+    let l = s.speed_switch_wake_latency;
+    let latency = into_tagged(l);
+    let blackout = in_eight(s.speed_switch_blackout as u64);
     let part = [
         s.svbk,
         s.key1_armed as u8,
@@ -59,8 +56,8 @@ pub(crate) fn put_registers(out: &mut [u8; 248], s: Cgb)
         blackout.b1,
         blackout.b2,
         blackout.b3,
-        tag,
-        value,
+        latency.tag,
+        latency.value,
         s.switch_relock_debit as u8,
         s.ff72,
         s.ff73,
@@ -98,7 +95,7 @@ pub(crate) fn put_bank(out: &mut [u8; 248], selected: u8, k: CgbConsoleState)
     place(out, 80, &part);
 }
 
-// The fields of the console that are numbers and flags.
+// The console's own numbers and flags.
 pub(crate) struct Registers {
     pub svbk: u8,
     pub key1_armed: bool,
@@ -113,8 +110,9 @@ pub(crate) struct Registers {
 }
 
 pub(crate) fn registers_of(b: &[u8; 248]) -> Registers
-    ensures { λ r. ⌜ r ≡ registersOf (now (b .entry)) ⌝ }
+    ensures { λ r. ⌜ r ≡ registersOf (stateOf (now (b .entry))) ⌝ }
 {
+    // Bytes 41 to 48, and 48 to 55.
     let x = eight_at(b, 41);
     let y = eight_at(b, 48);
     Registers {

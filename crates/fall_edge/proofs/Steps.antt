@@ -283,10 +283,10 @@ module _ (i : FallInput) (double : Bool) (d : VramDma) where
       let below : t .arb .«granted_ahead» < 255 = under (commits v t) (t .arb .«grant_counted») (t .arb .«granted_ahead») (k .0) (k .1) counts (rw (blinds-granted v s) byte) in
       rw (k .2) (commit-granted v t ∙ rw (counts, lt-ltb _ 255 below) (ap (λ (n : ℕ). n + 1) (blinds-granted v s)))
     where
-    under : (a b : Bool) (n : ℕ) → (a && not b && eqb n 255) ≡ false → a ≡ true → b ≡ false → n ≤ 255 → n < 255
-    under true true n o p q h = absurd (true≢false q)
-    under true false n o p q h = let other : n ≡ 255 → ⊥ = eqb-false n 255 o in omega arith
-    under false b n o p q h = absurd (false≢true p)
+      under : (a b : Bool) (n : ℕ) → (a && not b && eqb n 255) ≡ false → a ≡ true → b ≡ false → n ≤ 255 → n < 255
+      under true true n o p q h = absurd (true≢false q)
+      under true false n o p q h = let other : n ≡ 255 → ⊥ = eqb-false n 255 o in omega arith
+      under false b n o p q h = absurd (false≢true p)
 
   standing-step :
       Course → fallOf i double d .refused ≡ false →
@@ -298,10 +298,10 @@ module _ (i : FallInput) (double : Bool) (d : VramDma) where
   standing-step (overflowed p g o e) n = absurd (not-refused n e)
   standing-step (served p g o e) n = rw e (by (commits v t))
     where
-    by : (c : Bool) →
-        (c && leb 4 (servedOf c v t .arb .«pend_age») && not (v .«oam_owns_bus»)) ≡ (c && leb 4 (s .arb .«pend_age») && not (i .«oam_owns_bus»))
-    by true = rw (commit-age v t, blinds-age v s)
-    by false = refl
+      by : (c : Bool) →
+          (c && leb 4 (servedOf c v t .arb .«pend_age») && not (v .«oam_owns_bus»)) ≡ (c && leb 4 (s .arb .«pend_age») && not (i .«oam_owns_bus»))
+      by true = rw (commit-age v t, blinds-age v s)
+      by false = refl
 
 pub fall-steps : (i : FallInput) (double : Bool) (d : VramDma) → FallSteps i double d
 fall-steps i double d =

@@ -37,25 +37,25 @@ pub next-sound : (d : VramDma) → Sound d → Sound (nextByteOf d .dma)
 unfolding nextByteOf
 next-sound d k = by (ltb 0 (d .cursor .quota) && movingOf d)
   where
-  by : (b : Bool) → Sound (cond {A = NextByte} b (record { answer = Pair (pairOf (d .cursor)); dma = advancedOf d }) (record { answer = None; dma = d }) .dma)
-  by true = advanced d k
-  by false = k
+    by : (b : Bool) → Sound (cond {A = NextByte} b (record { answer = Pair (pairOf (d .cursor)); dma = advancedOf d }) (record { answer = None; dma = d }) .dma)
+    by true = advanced d k
+    by false = k
 
 pub drain-sound : (d : VramDma) → Sound d → Sound (drainOf d .dma)
 unfolding drainOf
 drain-sound d k = by (d .cursor .«escape_byte» && movingOf d)
   where
-  by : (b : Bool) → Sound (cond {A = NextByte} b (nextByteOf (withQuota 1 d)) (record { answer = None; dma = d }) .dma)
-  by true = next-sound (withQuota 1 d) (record { quota = lit≤ tt; block = k .block; left = k .left; idle = k .idle })
-  by false = k
+    by : (b : Bool) → Sound (cond {A = NextByte} b (nextByteOf (withQuota 1 d)) (record { answer = None; dma = d }) .dma)
+    by true = next-sound (withQuota 1 d) (record { quota = lit≤ tt; block = k .block; left = k .left; idle = k .idle })
+    by false = k
 
 pub lcd-sound : (d : VramDma) → Sound d → Sound (lcdDisabledOf d)
 unfolding lcdDisabledOf latchedOf latchedBlock
 lcd-sound d k = by (latchesDark d)
   where
-  by : (b : Bool) → Sound (cond b (latchedOf (unclaimed d)) (unclaimed d))
-  by true = record { quota = k .quota; block = lit≤ tt; left = k .left; idle = k .idle }
-  by false = record { quota = k .quota; block = k .block; left = k .left; idle = k .idle }
+    by : (b : Bool) → Sound (cond b (latchedOf (unclaimed d)) (unclaimed d))
+    by true = record { quota = k .quota; block = lit≤ tt; left = k .left; idle = k .idle }
+    by false = record { quota = k .quota; block = k .block; left = k .left; idle = k .idle }
 
 pub retired-sound : (d : VramDma) → Sound d → Sound (retiredOf d)
 retired-sound d k = record { quota = k .quota; block = k .block; left = k .left; idle = k .idle }

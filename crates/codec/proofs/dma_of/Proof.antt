@@ -5,7 +5,13 @@ use Rattle.codec.proofs.dma_of.Tie as tie
 
 returns : tie.Need-returns
 unfolding dmaOf
-returns c = rw (c .oam-of .ensures, c .before .arb-of .ensures, c .before .before .block-of .ensures, c .before .before .before .cursor-of .ensures)
+returns c =
+    rw (
+      c .oam-of .ensures,
+      c .before .arb-of .ensures,
+      c .before .before .block-of .ensures,
+      c .before .before .before .cursor-of .ensures,
+    )
 
 pub dma-of-spec : {M : Type 1} → statement M
 dma-of-spec =

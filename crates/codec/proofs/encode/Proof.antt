@@ -7,16 +7,22 @@ use Rattle.codec.proofs.encode.Tie as tie
 returns : tie.Need-returns
 unfolding encodeOf
 returns c =
-    let s = c .before .before .before .before .before .before .before .before .before .before .before .before .before .before .before .before .before .before .before .before .args .state in
+    let c6 = c .before .before .before in
+    let c5 = c6 .before .before .before in
+    let c4 = c5 .before .before in
+    let c3 = c4 .before .before .before in
+    let c2 = c3 .before .before .before in
+    let c1 = c2 .before .before .before in
+    let s = c1 .before .before .before .args .state in
     rw (
       c .put-bank .ensures,
-      c .before .before .before .put-extra .ensures .0,
-      c .before .before .before .before .before .before .put-registers .ensures,
-      c .before .before .before .before .before .before .before .before .put-oam .ensures,
-      c .before .before .before .before .before .before .before .before .before .before .before .put-arb .ensures,
-      c .before .before .before .before .before .before .before .before .before .before .before .before .before .before .put-block .ensures,
-      c .before .before .before .before .before .before .before .before .before .before .before .before .before .before .before .before .before .put-cursor .ensures,
-    ) (laid s (c .before .before .before .put-extra .ensures .1))
+      c6 .put-extra .ensures .0,
+      c5 .put-registers .ensures,
+      c4 .put-oam .ensures,
+      c3 .put-arb .ensures,
+      c2 .put-block .ensures,
+      c1 .put-cursor .ensures,
+    ) (laid s (c6 .put-extra .ensures .1))
 
 pub encode-spec : {M : Type 1} → statement M
 encode-spec =

@@ -6,7 +6,11 @@ use Rattle.codec.proofs.arb.arb_of.Tie as tie
 
 returns : tie.Need-returns
 unfolding arbOf
-returns c = rw (c .before .before .before .before .before .before .before .before .before .eight-at2 .ensures, c .before .before .before .before .before .before .before .before .before .before .eight-at .ensures)
+returns c =
+    rw (
+      c .before .before .before .before .before .before .before .before .before .eight-at2 .ensures,
+      c .before .before .before .before .before .before .before .before .before .before .eight-at .ensures,
+    )
 
 pub arb-of-spec : {M : Type 1} → statement M
 arb-of-spec =

@@ -6,7 +6,12 @@ use Rattle.codec.proofs.block.block_of.Tie as tie
 
 returns : tie.Need-returns
 unfolding blockOf
-returns c = rw (c .before .before .before .of-eight .ensures, c .before .before .before .before .before .eight-at2 .ensures, c .before .before .before .before .before .before .eight-at .ensures)
+returns c =
+    rw (
+      c .before .before .before .of-eight .ensures,
+      c .before .before .before .before .before .eight-at2 .ensures,
+      c .before .before .before .before .before .before .eight-at .ensures,
+    )
 
 pub block-of-spec : {M : Type 1} → statement M
 block-of-spec =

@@ -6,7 +6,14 @@ use Rattle.codec.proofs.cursor.cursor_of.Tie as tie
 
 returns : tie.Need-returns
 unfolding cursorOf
-returns c = rw (c .before .of-two3 .ensures, c .before .before .mode-of .ensures, c .before .before .before .of-two2 .ensures, c .before .before .before .before .of-two .ensures, c .before .before .before .before .before .eight-at .ensures)
+returns c =
+    rw (
+      c .before .of-two3 .ensures,
+      c .before .before .mode-of .ensures,
+      c .before .before .before .of-two2 .ensures,
+      c .before .before .before .before .of-two .ensures,
+      c .before .before .before .before .before .eight-at .ensures,
+    )
 
 pub cursor-of-spec : {M : Type 1} → statement M
 cursor-of-spec =

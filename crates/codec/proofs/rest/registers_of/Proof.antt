@@ -1,12 +1,18 @@
 -- `registers_of` meets its contract. Assumes nothing.
 use lib.Dec.{lit≤}
-use Rattle.codec.specs.Rest.{registersOf}
+use Rattle.codec.specs.Rest.{restOf}
+use Rattle.codec.specs.Codec.{stateOf}
 use Rattle.codec.proofs.rest.registers_of.Statement.{statement}
 use Rattle.codec.proofs.rest.registers_of.Tie as tie
 
 returns : tie.Need-returns
-unfolding registersOf
-returns c = rw (c .before .of-four .ensures, c .before .before .before .before .before .eight-at2 .ensures, c .before .before .before .before .before .before .eight-at .ensures)
+unfolding stateOf restOf
+returns c =
+    rw (
+      c .before .of-four .ensures,
+      c .before .before .before .before .before .eight-at2 .ensures,
+      c .before .before .before .before .before .before .eight-at .ensures,
+    )
 
 pub registers-of-spec : {M : Type 1} → statement M
 registers-of-spec =

@@ -6,8 +6,8 @@ use mathlib.Core.Path.{_≡_}
 use lib.ListN.{length, drop}
 use lib.Seq.{sets}
 use Rattle.codec.proofs.Runs.{stored-more, stored-all}
-use Rattle.codec.proofs.place.Statement.{statement}
-use Rattle.codec.proofs.place.Tie as tie
+use Rattle.codec.proofs.run.place.Statement.{statement}
+use Rattle.codec.proofs.run.place.Tie as tie
 
 abbrev Inv-loop : tie.InvT-loop
 Inv-loop out₀ at part i₀ out i = (i ≤ length part) × (sets out₀ at part ≡ sets out (at + i) (drop i part))

@@ -1,6 +1,5 @@
 -- Any 248 bytes read as a state within its widths. Assumes nothing.
 use Prim.Native.Nat.{ℕ, zero, suc, _<_}
-use mathlib.Core.Path.{_≡_, refl}
 use mathlib.Core.Bool.{Bool, true, false, cond}
 use mathlib.Core.List.{List}
 use lib.Dec.{lit<, eqb}
@@ -10,7 +9,7 @@ use Rattle.codec.specs.Number.{byteAt, bytesAt}
 use Rattle.codec.specs.Cursor.{cursorOf}
 use Rattle.codec.specs.Block.{blockOf}
 use Rattle.codec.specs.Arb.{arbOf}
-use Rattle.codec.specs.Rest.{latencyValue, registersOf, consoleOf}
+use Rattle.codec.specs.Rest.{latencyValue, consoleOf, restOf}
 use Rattle.codec.specs.Codec.{dmaOf, stateOf}
 use Rattle.codec.specs.Fits.{Bytes, Fits}
 use Rattle.console.specs.declared.WakeLatency.the-variants.{None, Some}
@@ -26,7 +25,7 @@ part-small b h k (suc n) (suc j) = part-small b h (suc k) n j
 
 module _ (b : List ℕ) (h : Bytes 248 b) where
   pub state-within : Fits (stateOf b)
-  unfolding stateOf dmaOf cursorOf blockOf arbOf registersOf consoleOf
+  unfolding stateOf dmaOf cursorOf blockOf arbOf restOf consoleOf
   state-within =
       let at = h .small in
       record {

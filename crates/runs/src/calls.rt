@@ -1,0 +1,100 @@
+// The public calls with the inputs that the cases leave alone, and lines for what they answer.
+use crate::say;
+use console::Cgb;
+use engine::answer::Fell;
+use engine::answer::Handed;
+use fall_edge::FallInput;
+use registers::WriteInput;
+use speed_switch::switch::SwitchInput;
+
+fn write(state: Cgb, address: u16, input: WriteInput) -> Cgb {
+    let mut wram = [0u8; 32768];
+    engine::access::write(state, &mut wram, address, input).state
+}
+
+// A register write with the LCD on.
+pub fn set(state: Cgb, address: u16, value: u8) -> Cgb {
+    write(
+        state,
+        address,
+        WriteInput {
+            value: value,
+            lcd_on: true,
+        },
+    )
+}
+
+pub fn set_in_the_dark(state: Cgb, address: u16, value: u8) -> Cgb {
+    write(
+        state,
+        address,
+        WriteInput {
+            value: value,
+            lcd_on: false,
+        },
+    )
+}
+
+pub fn read(label: &[u8], state: Cgb, address: u16) {
+    let wram = [0u8; 32768];
+    say::byte(label, engine::access::read(state, &wram, address));
+}
+
+pub fn tally(label: &[u8], state: Cgb) {
+    say::tally(label, engine::query::tally(state));
+}
+
+// A fall, running or halted, with nothing else going on.
+pub fn fall(state: Cgb, mode: u8, halted: bool) -> Fell {
+    engine::fall::vram_dma_fall_edge(
+        state,
+        FallInput {
+            mode: mode,
+            halted: halted,
+            irq_latched: false,
+            stopped: false,
+            master_edge: 0,
+            oam_owns_bus: false,
+        },
+    )
+}
+
+// A running fall, of which only the state is wanted.
+pub fn fallen(state: Cgb, mode: u8) -> Cgb {
+    fall(state, mode, false).state
+}
+
+fn handed(label: &[u8], h: Handed) -> Cgb {
+    let answer = h.answer;
+    say::pair(label, answer);
+    h.state
+}
+
+pub fn next(label: &[u8], state: Cgb) -> Cgb {
+    handed(label, engine::pair::next_byte(state))
+}
+
+pub fn drain_escape(label: &[u8], state: Cgb) -> Cgb {
+    handed(label, engine::pair::vram_dma_drain_escape(state))
+}
+
+// An attempt with no interrupt ready.
+pub fn switch(label: &[u8], state: Cgb, dot_phase: u8, hold: bool) -> Cgb {
+    let input = SwitchInput {
+        hold: hold,
+        dot_phase: dot_phase,
+        interrupt_ready: false,
+        master_edge: 0,
+    };
+    let switched = engine::speed::attempt_speed_switch(state, input);
+    let answer = switched.answer;
+    say::switched(label, answer);
+    switched.state
+}
+
+// Every field of two states is the same.
+pub fn same(a: Cgb, b: Cgb) -> bool {
+    let before = codec::encode(a);
+    let after = codec::encode(b);
+    check::same(&before, &after)
+}

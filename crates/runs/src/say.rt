@@ -1,0 +1,146 @@
+// Lines of text: a label and what an answer says.
+use engine::answer::ByteAnswer;
+use engine::answer::ClaimAnswer;
+use engine::answer::FlagAnswer;
+use engine::answer::PairAnswer;
+use engine::answer::SwitchAnswer;
+use engine::answer::TallyAnswer;
+use libc::STDOUT_FILENO;
+use transfer::pair::BytePair;
+
+fn text(bytes: &[u8]) {
+    io::write_all(STDOUT_FILENO, bytes);
+}
+
+fn decimal(n: u64) {
+    let mut digits = [0u8; 20];
+    let k = io::decimal(n, &mut digits);
+    text(&digits[0..k]);
+}
+
+fn glyph(d: u8) -> u8 {
+    if d % 16 < 10 {
+        48 + d % 16
+    } else {
+        55 + d % 16
+    }
+}
+
+fn two_digits(b: u8) {
+    let pair = [glyph(b / 16), glyph(b)];
+    text(&pair);
+}
+
+fn four_digits(n: u16) {
+    two_digits((n / 256) as u8);
+    two_digits((n % 256) as u8);
+}
+
+fn refused(n: u8) {
+    text(b"refused ");
+    decimal(n as u64);
+    text(b"\n");
+}
+
+fn addresses(p: BytePair) {
+    four_digits(p.source);
+    text(b" to ");
+    four_digits(p.dest);
+    text(b"\n");
+}
+
+pub fn case(name: &[u8]) {
+    text(name);
+    text(b"\n");
+}
+
+pub fn number(label: &[u8], n: u32) {
+    text(label);
+    decimal(n as u64);
+    text(b"\n");
+}
+
+pub fn yes(label: &[u8], flag: bool) {
+    text(label);
+    if flag {
+        text(b"yes\n");
+    } else {
+        text(b"no\n");
+    }
+}
+
+pub fn byte(label: &[u8], answer: ByteAnswer) {
+    text(label);
+    match answer {
+        ByteAnswer::Byte(b) => {
+            two_digits(b);
+            text(b"\n");
+        }
+        ByteAnswer::Refused(n) => refused(n),
+    }
+}
+
+pub fn flag(label: &[u8], answer: FlagAnswer) {
+    match answer {
+        FlagAnswer::Flag(b) => yes(label, b),
+        FlagAnswer::Refused(n) => {
+            text(label);
+            refused(n);
+        }
+    }
+}
+
+pub fn fell(label: &[u8], answer: ClaimAnswer) {
+    text(label);
+    match answer {
+        ClaimAnswer::Claim { .. } => text(b"accepted\n"),
+        ClaimAnswer::Refused(n) => refused(n),
+    }
+}
+
+pub fn some_pair(label: &[u8], p: BytePair) {
+    text(label);
+    addresses(p);
+}
+
+pub fn pair(label: &[u8], answer: PairAnswer) {
+    text(label);
+    match answer {
+        PairAnswer::Pair(p) => addresses(p),
+        PairAnswer::None => text(b"none\n"),
+        PairAnswer::Refused(n) => refused(n),
+    }
+}
+
+pub fn switched(label: &[u8], answer: SwitchAnswer) {
+    text(label);
+    match answer {
+        SwitchAnswer::None => text(b"none\n"),
+        SwitchAnswer::Discarded => text(b"discarded\n"),
+        SwitchAnswer::Cut => text(b"cut\n"),
+        SwitchAnswer::Refused(n) => refused(n),
+    }
+}
+
+pub fn tally(label: &[u8], answer: TallyAnswer) {
+    text(label);
+    match answer {
+        TallyAnswer::Tally {
+            source,
+            dest,
+            remaining,
+            escape_byte,
+        } => {
+            four_digits(source);
+            text(b" ");
+            four_digits(dest);
+            text(b" ");
+            decimal(remaining as u64);
+            if escape_byte {
+                text(b" escape");
+            }
+            text(b"\n");
+        }
+        TallyAnswer::Refused(n) => refused(n),
+    }
+}
