@@ -1,12 +1,11 @@
 -- Refusal 7's six tests and the six facts say the same, and power-on passes. Assumes nothing.
-use Prim.Native.Nat.{ℕ, _≤_}
-use mathlib.Core.Path.{_≡_, refl, ap, _∙_, sym}
-use mathlib.Core.Bool.{Bool, true, false, _&&_, _||_, not, false≢true, true≢false}
+use Prim.Native.Nat.{ℕ}
+use mathlib.Core.Path.{_≡_, refl, ap}
+use mathlib.Core.Bool.{Bool, true, false, _&&_, _||_, not, true≢false}
 use mathlib.Core.List.{List, [], _∷_}
 use lib.Dec.{eqb}
 use borrow.Author.Tests.{ltb-false, le-ltb, eq-eqb, eqb-true, not-false}
 use Rattle.console.specs.declared.Cgb.{Cgb}
-use Rattle.console.specs.Modes.{isIdle}
 use Rattle.console.specs.PowerOn.{powerOnOf, dmaAtRest}
 use Rattle.console.specs.Reached.{anyOf, unreached, unreachedTests, Reached, Sound}
 use Rattle.console.specs.Set.{withVramDma}

@@ -1,7 +1,6 @@
 -- The state at power-on (document 01, section 1: "Power-on takes the compat flag; other fields are `Default`'s").
 -- The Rust's `Default` of `Cgb` has svbk 1; every other number is 0 and every other flag false.
-use Prim.Native.Nat.{ℕ}
-use mathlib.Core.Bool.{Bool, true, false}
+use mathlib.Core.Bool.{Bool, false}
 use lib.ListN.{replicate}
 use Rattle.countdown.specs.Countdown.{cleared}
 use Rattle.console.specs.declared.Cgb.{Cgb}

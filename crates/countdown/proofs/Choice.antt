@@ -1,5 +1,5 @@
 -- Bounds on a choice. Assumes nothing.
-use Prim.Native.Nat.{ℕ, _≤_, _<_}
+use Prim.Native.Nat.{ℕ, _≤_}
 use mathlib.Core.Bool.{Bool, true, false, cond}
 
 pub cond-le : (b : Bool) (x y n : ℕ) → x ≤ n → y ≤ n → cond b x y ≤ n

@@ -4,10 +4,9 @@ use Prim.Native.Nat.{ℕ}
 use mathlib.Core.Path.{_≡_}
 use mathlib.Core.Bool.{Bool, true, false, cond, not}
 use lib.Dec.{eqb}
-use Rattle.console.specs.Reached.{unreached, Reached, Sound}
+use Rattle.console.specs.Reached.{unreached, Reached}
 use Rattle.console.specs.Set.{withVramDma}
 use Rattle.console.specs.declared.Cgb.{Cgb}
-use Rattle.console.specs.declared.vram_dma.VramDma.{VramDma}
 use Rattle.console.proofs.Reached as seven
 use Rattle.bus.specs.declared.ArbitrationInput.{ArbitrationInput}
 use Rattle.fall_edge.specs.declared.FallInput.{FallInput}
@@ -23,7 +22,7 @@ use Rattle.transfer.specs.Latch.{lcdDisabledOf, retiredOf}
 use Rattle.transfer.specs.Pair.{nextByteOf, drainOf}
 use Rattle.transfer.proofs.Sound.{next-sound, drain-sound, lcd-sound, retired-sound}
 use Rattle.engine.specs.Access.{accessRefusal, writeOf}
-use Rattle.engine.specs.Bus.{arbitrated, arbitrationCallOf}
+use Rattle.engine.specs.Bus.{arbitrationCallOf}
 use Rattle.engine.specs.Fall.{fallen, fallRefusal, fallenState, fallCallOf}
 use Rattle.engine.specs.Lcd.{lcdCallOf, retiredCallOf}
 use Rattle.engine.specs.Pair.{nextPairOf, escapeDrainOf}

@@ -1,18 +1,17 @@
 -- Running falls commit at most once in a mode-0 period (specs, `Once`). Assumes nothing.
-use Prim.Native.Nat.{ℕ, _+_, _≤_}
+use Prim.Native.Nat.{_≤_}
 use native.Mathlib.Omega.{arith}
-use mathlib.Core.Path.{_≡_, refl, sym, ap, _∙_}
-use mathlib.Core.Bool.{Bool, true, false, cond, not, _&&_, _||_, and-false, false≢true}
+use mathlib.Core.Path.{_≡_, refl, sym, _∙_}
+use mathlib.Core.Bool.{Bool, true, false, and-false, false≢true}
 use mathlib.Core.List.{List, [], _∷_}
-use lib.Dec.{lit≤, eqb}
+use lib.Dec.{lit≤}
 use borrow.Author.Tests.{eq-eqb}
 use Rattle.console.specs.declared.vram_dma.VramDma.{VramDma}
-use Rattle.fall_edge.specs.View.{viewOf, gates}
-use Rattle.fall_edge.specs.Stages.{settledOf, observedArb, observedOf, judgedBlock, ungrantedArb, probationOf, joinsHalt, droppedBlock, haltLatchArb, haltLatchOf, blindsArb, blindsOf, commits, commitBlock, commitArb, commitOf, tenureArb, tenureOf, pends, pendArb, pendOf, readyBlock, readinessOf, refilledOf, seizedBlock, seizureOf}
+use Rattle.fall_edge.specs.View.{viewOf}
+use Rattle.fall_edge.specs.Stages.{settledOf, observedArb, observedOf, judgedBlock, ungrantedArb, probationOf, droppedBlock, haltLatchArb, haltLatchOf, blindsArb, blindsOf, commits, commitBlock, commitOf, tenureOf, pends, pendArb, pendOf, readyBlock, readinessOf, refilledOf, seizedBlock, seizureOf}
 use Rattle.fall_edge.specs.Fall.{startedOf, servedOf, fallOf}
 use Rattle.fall_edge.specs.Once.{Runs, AllRun, commitsIn, Once}
 use Rattle.fall_edge.specs.declared.FallInput.{FallInput}
-use Rattle.fall_edge.specs.declared.Fallen.{Fallen}
 use Rattle.fall_edge.specs.declared.View.{View}
 use Rattle.fall_edge.proofs.Steps.{Course, settled, gated, overflowed, served, course, committed-step}
 

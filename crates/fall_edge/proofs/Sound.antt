@@ -1,21 +1,18 @@
 -- The fall keeps what refusal 7 tests of the engine. Assumes nothing.
-use Prim.Native.Nat.{ℕ, _≤_}
-use mathlib.Core.Path.{_≡_, refl, ap, sym, _∙_}
-use mathlib.Core.Bool.{Bool, true, false, cond}
-use lib.Dec.{lit≤, eqb}
+use Prim.Native.Nat.{_≤_}
+use mathlib.Core.Path.{_≡_, refl}
+use mathlib.Core.Bool.{Bool, true, false}
+use lib.Dec.{lit≤}
 use Rattle.console.specs.Reached.{Sound}
-use Rattle.console.specs.Set.{withCursorQuota}
 use Rattle.console.specs.declared.vram_dma.HaltArbiter.{HaltArbiter}
 use Rattle.console.specs.declared.vram_dma.HblankBlock.{HblankBlock}
 use Rattle.console.specs.declared.vram_dma.VramDma.{VramDma}
 use Rattle.transfer.specs.Pair.{movingOf, quotaOf}
 use Rattle.fall_edge.specs.Stages.{settledOf, observedOf, judgedBlock, probationOf, droppedBlock, haltLatchOf, refilledOf, gatedOf, blindsOf, commits, commitBlock, commitOf, tenureOf, pendOf, readyBlock, readinessOf, seizedBlock, seizureOf}
 use Rattle.fall_edge.specs.Fall.{startedOf, servedOf, fallOf}
-use Rattle.fall_edge.specs.Steps.{FallSteps}
 use Rattle.fall_edge.specs.declared.FallInput.{FallInput}
-use Rattle.fall_edge.specs.declared.Fallen.{Fallen}
 use Rattle.fall_edge.specs.declared.View.{View}
-use Rattle.fall_edge.proofs.Steps.{Course, settled, gated, overflowed, served, course, fall-steps, v, s, t}
+use Rattle.fall_edge.proofs.Steps.{Course, settled, gated, overflowed, served, course, fall-steps, v, t}
 
 judged : (back : Bool) (b : HblankBlock) → b .remaining ≤ 16 → judgedBlock back b .remaining ≤ 16
 unfolding judgedBlock

@@ -1,12 +1,11 @@
 -- The stages do what document 01 says of them (specs, `StageSteps`). Assumes nothing.
-use Prim.Native.Nat.{ℕ, _/_, _<_, _≤_}
-use native.Mathlib.Omega.{arith}
+use Prim.Native.Nat.{_/_, _<_, _≤_}
 use mathlib.Core.Path.{_≡_, refl}
-use mathlib.Core.Bool.{Bool, true, false, cond, not, _&&_, _||_, and-false, and-true, or-true}
+use mathlib.Core.Bool.{Bool, true, false, cond, and-false, and-true, or-true}
 use borrow.Author.Tests.{lt-ltb, le-leb, lt-leb, eq-eqb, ne-eqb}
 use Rattle.countdown.specs.Countdown.{armed, saturatingInc}
 use Rattle.console.specs.declared.vram_dma.VramDma.{VramDma}
-use Rattle.fall_edge.specs.Stages.{observedArb, observedOf, joinsHalt, droppedBlock, haltLatchArb, haltLatchOf, refilledOf, agedArb, pendedArb, haltPends, grants, grantedArb, gatedOf, blinded, blindsOf, drives, commitArb, commitOf, consumes, tenureOf}
+use Rattle.fall_edge.specs.Stages.{observedArb, observedOf, joinsHalt, droppedBlock, haltLatchArb, haltLatchOf, refilledOf, agedArb, pendedArb, haltPends, grants, grantedArb, gatedOf, blindsOf, commitArb, commitOf, consumes, tenureOf}
 use Rattle.fall_edge.specs.StageSteps.{StageSteps}
 use Rattle.fall_edge.specs.declared.View.{View}
 

@@ -2,20 +2,19 @@
 use Prim.Native.Nat.{ℕ, _+_, _<_, _≤_}
 use native.Mathlib.Omega.{arith}
 use mathlib.Core.Path.{_≡_, refl, sym, ap, _∙_}
-use mathlib.Core.Bool.{Bool, true, false, cond, not, _&&_, _||_, and-false, and-true, false≢true, true≢false}
-use lib.Dec.{ltb, leb, eqb}
+use mathlib.Core.Bool.{Bool, true, false, cond, not, _&&_, false≢true, true≢false}
+use lib.Dec.{leb, eqb}
 use borrow.Author.Tests.{lt-ltb, eqb-false, eqb-true, not-true}
 use Rattle.countdown.specs.Countdown.{saturatingInc}
 use Rattle.console.specs.Set.{withCursorQuota}
 use Rattle.console.specs.declared.vram_dma.HaltArbiter.{HaltArbiter}
-use Rattle.console.specs.declared.vram_dma.HblankBlock.{HblankBlock}
 use Rattle.console.specs.declared.vram_dma.VramDma.{VramDma}
 use Rattle.transfer.specs.Pair.{movingOf, quotaOf}
 use Rattle.transfer.proofs.Steps.{pair-steps}
 use Rattle.fall_edge.specs.View.{viewOf, gates}
-use Rattle.fall_edge.specs.Stages.{inertOf, settledOf, observedArb, observedOf, judgedBlock, ungrantedArb, probationOf, joinsHalt, droppedBlock, haltLatchArb, haltLatchOf, refilledOf, agedArb, haltPends, pendedArb, grants, grantedArb, gatedOf, blindsArb, blindsOf, commits, overflows, commitBlock, commitArb, commitOf, tenureArb, tenureOf, pends, pendArb, pendOf, readyBlock, readinessOf, seizedBlock, seizureOf, claimOf}
+use Rattle.fall_edge.specs.Stages.{inertOf, settledOf, observedArb, observedOf, ungrantedArb, probationOf, haltLatchArb, haltLatchOf, refilledOf, agedArb, pendedArb, grantedArb, gatedOf, blindsArb, blindsOf, commits, overflows, commitBlock, commitArb, commitOf, tenureArb, tenureOf, pendArb, pendOf, readyBlock, readinessOf, seizedBlock, seizureOf, claimOf}
 use Rattle.fall_edge.specs.Fall.{startedOf, servedOf, decidedOf, ranOf, fallOf, noClaim, fell, refusedOf}
-use Rattle.fall_edge.specs.Steps.{settles, reaches6, before6, commitTest, FallSteps}
+use Rattle.fall_edge.specs.Steps.{settles, before6, commitTest, FallSteps}
 use Rattle.fall_edge.specs.declared.FallInput.{FallInput}
 use Rattle.fall_edge.specs.declared.Fallen.{Fallen}
 use Rattle.fall_edge.specs.declared.View.{View}

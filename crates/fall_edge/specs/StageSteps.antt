@@ -1,7 +1,7 @@
 -- What is shown of single stages, for the numbers and conditions of document 01's steps 3 to 6.
-use Prim.Native.Nat.{ℕ, _/_, _<_, _≤_}
+use Prim.Native.Nat.{_/_, _<_, _≤_}
 use mathlib.Core.Path.{_≡_}
-use mathlib.Core.Bool.{Bool, true, false, cond}
+use mathlib.Core.Bool.{true, false, cond}
 use Rattle.countdown.specs.Countdown.{armed, saturatingInc}
 use Rattle.console.specs.declared.vram_dma.VramDma.{VramDma}
 use Rattle.fall_edge.specs.Stages.{observedOf, haltLatchOf, gatedOf, haltPends, grants, blindsOf, commitOf, tenureOf}

@@ -6,7 +6,7 @@ mod same;
 
 ghost use mathlib.Core.Path.{_≡_};
 ghost use Rattle.fall_edge.specs.View.{viewOf, gates};
-ghost use Rattle.fall_edge.specs.Stages.{inertOf, settledOf, observedOf, probationOf, haltLatchOf, gatedOf, blindsOf, commits, overflows, commitOf, tenureOf, pendOf, readinessOf, refilledOf, seizureOf, claimOf};
+ghost use Rattle.fall_edge.specs.Stages.{inertOf, settledOf, observedOf, probationOf, haltLatchOf, gatedOf, blindsOf, commits, commitOf, tenureOf, pendOf, readinessOf, refilledOf, seizureOf};
 ghost use Rattle.fall_edge.specs.Fall.{startedOf, servedOf, decidedOf, ranOf, fallOf};
 use console::VramDmaClaim;
 use console::vram_dma::VramDma;

@@ -1,6 +1,6 @@
 // FF55: the status that it reads, and the three things that a write to it can do.
 ghost use mathlib.Core.Path.{_≡_};
-ghost use Rattle.hdma.specs.Hdma5.{statusByte, lengthOf, grantsCleared, paced, armedOf, cancelledOf, startedOf, hdma5Written};
+ghost use Rattle.hdma.specs.Hdma5.{statusByte, grantsCleared, paced, armedOf, cancelledOf, startedOf, hdma5Written};
 use console::vram_dma::HaltArbiter;
 use console::vram_dma::TransferCursor;
 use console::vram_dma::TransferMode;

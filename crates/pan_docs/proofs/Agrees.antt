@@ -1,26 +1,22 @@
 -- The port agrees with Pan Docs where specs/Agreement says so, and differs where it says so. Assumes nothing.
 use Prim.Native.Nat.{ℕ, _+_, _-_, _*_, _/_, _%_, _<_, _≤_}
 use native.Mathlib.Omega.{arith}
-use mathlib.Core.Path.{_≡_, refl, ap, sym, _∙_}
-use mathlib.Core.Bool.{Bool, true, false, cond, and-false}
+use mathlib.Core.Path.{_≡_, refl, ap, _∙_}
+use mathlib.Core.Bool.{Bool, true, false, and-false}
 use mathlib.Core.List.{List}
 use lib.ListN as list
-use lib.Dec.{ltb, leb}
-use borrow.Author.Tests.{lt-ltb, le-ltb}
+use borrow.Author.Tests.{lt-ltb}
 use Rattle.console.specs.Modes.{isHBlank}
 use Rattle.console.specs.PowerOn.{powerOnOf, dmaAtRest}
 use Rattle.console.specs.Reached.{unreached, Reached}
 use Rattle.console.specs.declared.Cgb.{Cgb}
-use Rattle.console.specs.declared.vram_dma.TransferMode.{TransferMode}
 use Rattle.console.specs.declared.vram_dma.TransferMode.the-variants as mode
 use Rattle.console.specs.Set.{withFf72, withFf73, withFf74, withFf75, withSvbk}
 use Rattle.console.proofs.Reached.{reached, passes}
-use Rattle.hdma.specs.Hdma5.{hdma5Written, armedOf, cancelledOf, startedOf, statusByte, visible, active}
-use Rattle.transfer.specs.Latch.{latchedOf}
+use Rattle.hdma.specs.Hdma5.{hdma5Written, armedOf, cancelledOf, startedOf, statusByte, visible}
 use Rattle.transfer.specs.Questions.{writeAddress}
 use Rattle.registers.specs.Map.{placeOf, isMapped, bankedRam, locksAt}
 use Rattle.registers.specs.Map as port
-use Rattle.registers.specs.Read.{byteAt}
 use Rattle.registers.specs.Write.{stateAt, withSource, withDest, mapWriteOf, storedOf}
 use Rattle.registers.specs.declared.WriteInput.{WriteInput}
 use Rattle.hdma.proofs.Written.{keeps, arms, starts}

@@ -4,7 +4,7 @@ use mathlib.Core.Path.{_≡_}
 use mathlib.Core.List.{List, [], _∷_}
 use borrow.Author.Tests.{ne-eqb}
 use native.Mathlib.Omega.{arith}
-use Rattle.registers.specs.Map.{placeOf, registerOf, Place, workRam, bankedRam, extraOam, unmapped, extraOamIndex}
+use Rattle.registers.specs.Map.{placeOf, registerOf, workRam, bankedRam, extraOam, unmapped, extraOamIndex}
 use Rattle.registers.proofs.Ranges.{inside, under, past}
 
 -- none of the numbers, as a match's last arm knows it: the last number first

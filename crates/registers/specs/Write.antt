@@ -1,5 +1,5 @@
 -- Writes (document 01, section 1): what a write to each place leaves.
-use Prim.Native.Nat.{ℕ, _+_, _*_, _/_, _%_}
+use Prim.Native.Nat.{ℕ, _*_, _/_, _%_}
 use mathlib.Core.Path.{_≡_}
 use mathlib.Core.Bool.{Bool, cond, _&&_}
 use mathlib.Core.List.{List}
@@ -9,7 +9,7 @@ use Rattle.console.specs.Set.{withCursorSource, withCursorDest, withDmaCursor, 
 use Rattle.console.specs.declared.Cgb.{Cgb}
 use Rattle.hdma.specs.Pointers.{withHigh, withLow}
 use Rattle.hdma.specs.Hdma5.{hdma5Written}
-use Rattle.registers.specs.Map.{Register, KEY0, KEY1, VBK, HDMA1, HDMA2, HDMA3, HDMA4, HDMA5, SVBK, FF72, FF73, FF74, FF75, Place, workRam, bankedRam, extraOam, register, unmapped, bankedIndex, placeOf, isMapped, locks, locksAt}
+use Rattle.registers.specs.Map.{Register, KEY0, KEY1, VBK, HDMA1, HDMA2, HDMA3, HDMA4, HDMA5, SVBK, FF72, FF73, FF74, FF75, Place, workRam, bankedRam, extraOam, register, unmapped, bankedIndex, placeOf, isMapped, locksAt}
 use Rattle.registers.specs.declared.MapWritten.{MapWritten}
 use Rattle.registers.specs.declared.WriteInput.{WriteInput}
 

@@ -2,7 +2,6 @@
 pub mod wram;
 
 ghost use mathlib.Core.Path.{_≡_};
-ghost use mathlib.Core.Bool.{cond};
 ghost use Rattle.registers.specs.Read.{key1Byte, mapReadOf};
 ghost use Rattle.registers.specs.Map.{locksAt};
 ghost use Rattle.registers.specs.Write.{storedOf, mapWriteOf, wramAfter, Wrote};

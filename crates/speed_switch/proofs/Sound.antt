@@ -1,6 +1,5 @@
 -- The switch keeps what refusal 7 tests of the engine. Assumes nothing.
-use Prim.Native.Nat.{ℕ, _≤_}
-use mathlib.Core.Path.{_≡_, refl}
+use mathlib.Core.Path.{refl}
 use mathlib.Core.Bool.{Bool, true, false, cond}
 use lib.Dec.{ltb, lit≤}
 use Rattle.console.specs.Reached.{Sound}

@@ -1,11 +1,11 @@
 -- The switch does what document 01 says of it (specs, `SwitchSteps`). Assumes nothing.
 use Prim.Native.Nat.{ℕ, _-_, _<_}
 use native.Mathlib.Omega.{arith}
-use mathlib.Core.Path.{_≡_, refl, sym, _∙_}
-use mathlib.Core.Bool.{Bool, true, false, cond, not, _&&_, false≢true}
+use mathlib.Core.Path.{_≡_, refl}
+use mathlib.Core.Bool.{Bool, true, false, not, _&&_, false≢true}
 use lib.Dec.{ltb}
-use borrow.Author.Tests.{lt-ltb, le-ltb, ne-eqb, ltb-true}
-use Rattle.countdown.specs.Countdown.{armed, cleared, activeOf}
+use borrow.Author.Tests.{lt-ltb, le-ltb, ne-eqb}
+use Rattle.countdown.specs.Countdown.{armed, activeOf}
 use Rattle.console.specs.declared.vram_dma.TransferMode.the-variants as mode
 use Rattle.console.specs.declared.vram_dma.VramDma.{VramDma}
 use Rattle.speed_switch.specs.Switch.{readyBlock, outcomeOf, ungranted, cutOf, discardedOf, gradedOf, upwardOf, engineAfter, blackoutOf, debitAfter}

@@ -2,7 +2,7 @@
 use Prim.Native.Nat.{ℕ, _-_, _<_}
 use mathlib.Core.Path.{_≡_}
 use mathlib.Core.Bool.{Bool, true, false}
-use Rattle.countdown.specs.Countdown.{armed, cleared}
+use Rattle.countdown.specs.Countdown.{armed}
 use Rattle.console.specs.declared.vram_dma.TransferMode.the-variants as mode
 use Rattle.console.specs.declared.vram_dma.VramDma.{VramDma}
 use Rattle.speed_switch.specs.Switch.{readyBlock, outcomeOf, upwardOf, engineAfter, blackoutOf, debitAfter}

@@ -1,11 +1,9 @@
 -- The pair, the escape drain, LCD off and instruction retired keep what refusal 7 tests of the engine. Assumes nothing.
-use Prim.Native.Nat.{ℕ, _-_, _≤_, _<_}
+use Prim.Native.Nat.{ℕ, _-_, _≤_}
 use native.Mathlib.Omega.{arith}
-use mathlib.Core.Path.{_≡_, refl, ap, sym, _∙_}
 use mathlib.Core.Bool.{Bool, true, false, cond, _&&_}
 use lib.Dec.{ltb, eqb, lit≤}
-use borrow.Author.Tests.{ltb-true, eq-eqb}
-use Rattle.console.specs.Modes.{isIdle}
+use borrow.Author.Tests.{eq-eqb}
 use Rattle.console.specs.Reached.{Sound}
 use Rattle.console.specs.declared.vram_dma.TransferCursor.{TransferCursor}
 use Rattle.console.specs.declared.vram_dma.VramDma.{VramDma}

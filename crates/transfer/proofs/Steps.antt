@@ -1,17 +1,16 @@
 -- The pair and the escape drain do what document 01 says of them (specs, `PairSteps`). Assumes nothing.
-use Prim.Native.Nat.{ℕ, _+_, _-_, _%_, _<_}
+use Prim.Native.Nat.{_<_}
 use native.Mathlib.Omega.{arith}
-use mathlib.Core.Path.{_≡_, refl, sym, ap, _∙_}
+use mathlib.Core.Path.{_≡_, refl, sym, _∙_}
 use mathlib.Core.Bool.{Bool, true, false, not, _&&_, _||_, and-true, and-false, false≢true}
 use mathlib.Core.Logic.{⊎-elim}
 use native.Mathlib.Nat.{eq-zero-or-pos}
-use lib.Dec.{ltb, eqb, lit<}
+use lib.Dec.{ltb, lit<}
 use borrow.Author.Tests.{lt-ltb, le-ltb, eq-eqb, ne-eqb}
 use Rattle.countdown.specs.Countdown.{activeOf}
 use Rattle.console.specs.Modes.{isGeneral}
-use Rattle.console.specs.Set.{withDmaCursor, withCursorQuota}
 use Rattle.console.specs.declared.vram_dma.VramDma.{VramDma}
-use Rattle.transfer.specs.Pair.{movingOf, leftAfter, cursorAfter, blockAfter, arbAfter, pairOf, advancedOf, nextByteOf, withQuota, drainOf}
+use Rattle.transfer.specs.Pair.{movingOf, cursorAfter, blockAfter, arbAfter, pairOf, advancedOf, nextByteOf, withQuota, drainOf}
 use Rattle.transfer.specs.Steps.{Ready, Moved, PairSteps}
 use Rattle.transfer.specs.declared.pair.NextAnswer.the-variants.{Pair, None}
 

@@ -1,6 +1,6 @@
 -- The next pair (document 01, section 3; vram_dma.rs, `next_byte`) and the escape drain (section 4).
 use Prim.Native.Nat.{ℕ, _+_, _-_, _^_, _%_}
-use mathlib.Core.Bool.{Bool, true, false, cond, not, _&&_, _||_}
+use mathlib.Core.Bool.{Bool, false, cond, not, _&&_, _||_}
 use lib.Dec.{ltb, eqb}
 use Rattle.countdown.specs.Countdown.{activeOf}
 use Rattle.console.specs.Modes.{isGeneral}

@@ -1,5 +1,5 @@
 -- What is shown of the pair and of the escape drain, in document 01's words (sections 3 and 4).
-use Prim.Native.Nat.{ℕ, _+_, _-_, _%_, _<_}
+use Prim.Native.Nat.{_+_, _-_, _%_, _<_}
 use mathlib.Core.Path.{_≡_}
 use mathlib.Core.Bool.{true, false}
 use Rattle.console.specs.declared.vram_dma.TransferMode.the-variants as mode

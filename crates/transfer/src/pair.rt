@@ -1,6 +1,6 @@
 // The next pair of addresses (vram_dma.rs, `next_byte`, `drain_escape`, `moving`, `refill_quota`).
 ghost use mathlib.Core.Path.{_≡_};
-ghost use Rattle.transfer.specs.Pair.{movingOf, quotaOf, leftAfter, cursorAfter, blockAfter, arbAfter, pairOf, advancedOf, nextByteOf, withQuota, drainOf};
+ghost use Rattle.transfer.specs.Pair.{movingOf, quotaOf, leftAfter, cursorAfter, blockAfter, arbAfter, advancedOf, nextByteOf, drainOf};
 use console::vram_dma::HaltArbiter;
 use console::vram_dma::HblankBlock;
 use console::vram_dma::OamContention;
@@ -155,7 +155,19 @@ pub fn drain_escape(d: VramDma) -> NextByte
     if owed {
         let mut one = d;
         one.cursor.quota = 1;
-        return next_byte(one);
+        let next = next_byte(one);
+        let answer = next.answer;
+        let dma = next.dma;
+        let NextAnswer::Pair(pair) = answer else {
+            return NextByte {
+                answer: NextAnswer::None,
+                dma: dma,
+            };
+        };
+        return NextByte {
+            answer: NextAnswer::Pair(pair),
+            dma: dma,
+        };
     }
     NextByte {
         answer: NextAnswer::None,

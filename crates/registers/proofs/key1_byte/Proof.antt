@@ -1,5 +1,4 @@
 -- `key1_byte` meets its contract. Assumes nothing.
-use mathlib.Core.Path.{_∙_}
 use Rattle.registers.proofs.Key1.{key1}
 use Rattle.registers.proofs.key1_byte.Statement.{statement}
 use Rattle.registers.proofs.key1_byte.Tie as tie

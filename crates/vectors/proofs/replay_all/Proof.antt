@@ -1,7 +1,5 @@
 -- `replay_all` ends: the turns run out where the input does not. Assumes nothing.
-use Prim.Native.Nat.{_≤_, _-_}
 use mathlib.Core.Path.{_≡_}
-use native.Mathlib.Omega.{arith}
 use borrow.Author.Needs.{needs}
 use lib.ListN.{length}
 use Rattle.vectors.proofs.replay_all.Statement.{statement}

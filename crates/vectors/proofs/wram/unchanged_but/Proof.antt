@@ -1,7 +1,6 @@
 -- `unchanged_but` ends and stays inside its slice. Assumes nothing.
 use Prim.Native.Nat.{_≤_, _-_}
 use mathlib.Core.Path.{_≡_}
-use native.Mathlib.Omega.{arith}
 use borrow.Author.Needs.{needs}
 use lib.ListN.{length}
 use Rattle.vectors.proofs.wram.unchanged_but.Statement.{statement}
