@@ -1,3 +1,4 @@
 pub mod Accepted
 pub mod Keeps
 pub mod Says
+pub mod Core

@@ -4,3 +4,4 @@ pub mod Fall
 pub mod Steps
 pub mod Once
 pub mod StageSteps
+pub mod Refills

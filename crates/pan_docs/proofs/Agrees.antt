@@ -2,7 +2,8 @@
 use Prim.Native.Nat.{ℕ, _+_, _-_, _*_, _/_, _%_, _<_, _≤_}
 use native.Mathlib.Omega.{arith}
 use mathlib.Core.Path.{_≡_, refl, ap, _∙_}
-use mathlib.Core.Bool.{Bool, true, false, and-false}
+use mathlib.Core.Bool.{Bool, true, false, cond, not, and-false}
+use lib.Dec.{ltb}
 use mathlib.Core.List.{List}
 use lib.ListN as list
 use borrow.Author.Tests.{lt-ltb}
@@ -22,6 +23,9 @@ use Rattle.registers.specs.declared.WriteInput.{WriteInput}
 use Rattle.hdma.proofs.Written.{keeps, arms, starts}
 use Rattle.registers.proofs.Places.{at-d}
 use Rattle.engine.specs.Access.{readOf, writeOf, accessRefusal}
+use Rattle.engine.specs.Speed.{defers, switchRefusal, switchCallOf}
+use Rattle.speed_switch.specs.Switch.{switchedOf}
+use Rattle.speed_switch.specs.declared.switch.SwitchInput.{SwitchInput}
 use Rattle.engine.specs.declared.answer.ByteAnswer.the-variants.{Byte}
 use Rattle.engine.proofs.Accepted.{read-accepted, write-unlocked}
 use Rattle.pan_docs.specs.PanDocs as pan
@@ -160,11 +164,33 @@ ff74-locked : (s : Cgb) → unreached s ≡ false → s .«dmg_compat» ≡ true
 unfolding placeOf
 ff74-locked s r compat wram whole = read-accepted s r 0xFF74 refl wram whole ∙ rw compat
 
+module _ (s : Cgb) (i : SwitchInput) where
+  switch-flips :
+      switchRefusal s i ≡ 0 →
+      (switchCallOf s i .state .«double_speed» ≡ not (s .«double_speed»)) × (switchCallOf s i .state .«key1_armed» ≡ false)
+  unfolding switchCallOf switchedOf
+  switch-flips accepted = (rw accepted, rw accepted)
+
+  -- the fifth test of a switch fails where it is accepted
+  switch-armed : switchRefusal s i ≡ 0 → s .«key1_armed» ≡ true
+  unfolding switchRefusal
+  switch-armed accepted = fifth (unreached s) (ltb 4 (i .«dot_phase»)) (i .hold) (ltb 0 (s .«speed_switch_blackout»)) (s .«key1_armed») (defers s) accepted
+    where
+      fifth : (a b c e k f : Bool) → _≡_ {A = ℕ} (cond a 7 (cond b 3 (cond c 5 (cond e 11 (cond (not k) 12 (cond f 13 0)))))) 0 → k ≡ true
+      fifth a b c e true f h = refl
+      fifth true b c e false f h = absurd (omega arith)
+      fifth false true c e false f h = absurd (omega arith)
+      fifth false false true e false f h = absurd (omega arith)
+      fifth false false false true false f h = absurd (omega arith)
+      fifth false false false false false f h = absurd (omega arith)
+
 pub agreement : Agreement
 agreement =
     record {
       key1-reads = key1-reads;
       key1-arms = λ s v lcd m. key1-arms s m v lcd;
+      switch-flips = switch-flips;
+      switch-armed = switch-armed;
       vbk-selects = λ s v lcd m. vbk-selects s m v lcd;
       vbk-reads = vbk-reads;
       source-set = λ s high low lcd m h. source-set s m high low lcd h;

@@ -2,7 +2,7 @@
 -- it (docs/DIFFERENCES.md). The calls are the engine's, on any state that passes refusal 7, in CGB mode.
 use Prim.Native.Nat.{ℕ, _+_, _*_, _<_, _≤_}
 use mathlib.Core.Path.{_≡_}
-use mathlib.Core.Bool.{Bool, true, false}
+use mathlib.Core.Bool.{Bool, true, false, not}
 use mathlib.Core.List.{List}
 use lib.ListN as list
 use Rattle.console.specs.PowerOn.{powerOnOf}
@@ -13,7 +13,9 @@ use Rattle.memory.specs.Lengths.{wramLength}
 use Rattle.transfer.specs.Questions.{writeAddress}
 use Rattle.estimate.specs.Estimate.{estimateOf}
 use Rattle.engine.specs.Access.{readOf, writeOf}
+use Rattle.engine.specs.Speed.{switchRefusal, switchCallOf}
 use Rattle.engine.specs.declared.answer.ByteAnswer.the-variants.{Byte}
+use Rattle.speed_switch.specs.declared.switch.SwitchInput.{SwitchInput}
 use Rattle.registers.specs.Map as port
 use Rattle.pan_docs.specs.PanDocs as pan
 
@@ -40,6 +42,12 @@ pub record Agreement : Type 0 where
   pub key1-arms :
       (s : Cgb) (v : ℕ) (lcd : Bool) → CgbMode s →
       (pan.bitOf (after 0xFF4D v lcd s .«key1_armed») ≡ pan.bit 0 v) × (after 0xFF4D v lcd s .«double_speed» ≡ s .«double_speed»)
+  -- an accepted switch changes the speed, both directions alike, and bit 0 is then 0 again
+  pub switch-flips :
+      (s : Cgb) (i : SwitchInput) → switchRefusal s i ≡ 0 →
+      (switchCallOf s i .state .«double_speed» ≡ not (s .«double_speed»)) × (switchCallOf s i .state .«key1_armed» ≡ false)
+  -- and it happens only with bit 0 set
+  pub switch-armed : (s : Cgb) (i : SwitchInput) → switchRefusal s i ≡ 0 → s .«key1_armed» ≡ true
   -- VBK selects by bit 0, and reads it back
   pub vbk-selects : (s : Cgb) (v : ℕ) (lcd : Bool) → CgbMode s → after 0xFF4F v lcd s .vram .selected ≡ pan.bit 0 v
   pub vbk-reads : (s : Cgb) → CgbMode s → Reads s 0xFF4F (pan.vbk (s .vram .selected))
