@@ -1,8 +1,13 @@
 // Lines of text: a label and what an answer says.
 use engine::answer::ByteAnswer;
+use engine::answer::ClaimAnswer;
 use engine::answer::DoneAnswer;
+use engine::answer::FlagAnswer;
+use engine::answer::PairAnswer;
+use engine::answer::SwitchAnswer;
 use engine::answer::TallyAnswer;
 use libc::STDOUT_FILENO;
+use transfer::pair::BytePair;
 
 fn text(bytes: &[u8]) {
     io::write_all(STDOUT_FILENO, bytes);
@@ -27,9 +32,26 @@ fn two_digits(b: u8) {
     text(&pair);
 }
 
+fn four_digits(n: u16) {
+    two_digits((n / 256) as u8);
+    two_digits((n % 256) as u8);
+}
+
 fn refused(n: u8) {
     text(b"refused ");
     decimal(n as u64);
+    text(b"\n");
+}
+
+fn addresses(p: BytePair) {
+    four_digits(p.source);
+    text(b" to ");
+    four_digits(p.dest);
+    text(b"\n");
+}
+
+pub fn case(name: &[u8]) {
+    text(name);
     text(b"\n");
 }
 
@@ -39,10 +61,27 @@ pub fn hex(label: &[u8], b: u8) {
     text(b"\n");
 }
 
-pub fn number(label: &[u8], n: u16) {
+pub fn done(label: &[u8], answer: DoneAnswer) {
+    text(label);
+    match answer {
+        DoneAnswer::Done => text(b"done\n"),
+        DoneAnswer::Refused(n) => refused(n),
+    }
+}
+
+pub fn number(label: &[u8], n: u32) {
     text(label);
     decimal(n as u64);
     text(b"\n");
+}
+
+pub fn yes(label: &[u8], flag: bool) {
+    text(label);
+    if flag {
+        text(b"yes\n");
+    } else {
+        text(b"no\n");
+    }
 }
 
 pub fn byte(label: &[u8], answer: ByteAnswer) {
@@ -56,11 +95,45 @@ pub fn byte(label: &[u8], answer: ByteAnswer) {
     }
 }
 
-pub fn done(label: &[u8], answer: DoneAnswer) {
+pub fn flag(label: &[u8], answer: FlagAnswer) {
+    match answer {
+        FlagAnswer::Flag(b) => yes(label, b),
+        FlagAnswer::Refused(n) => {
+            text(label);
+            refused(n);
+        }
+    }
+}
+
+pub fn fell(label: &[u8], answer: ClaimAnswer) {
     text(label);
     match answer {
-        DoneAnswer::Done => text(b"done\n"),
-        DoneAnswer::Refused(n) => refused(n),
+        ClaimAnswer::Claim { .. } => text(b"accepted\n"),
+        ClaimAnswer::Refused(n) => refused(n),
+    }
+}
+
+pub fn some_pair(label: &[u8], p: BytePair) {
+    text(label);
+    addresses(p);
+}
+
+pub fn pair(label: &[u8], answer: PairAnswer) {
+    text(label);
+    match answer {
+        PairAnswer::Pair(p) => addresses(p),
+        PairAnswer::None => text(b"none\n"),
+        PairAnswer::Refused(n) => refused(n),
+    }
+}
+
+pub fn switched(label: &[u8], answer: SwitchAnswer) {
+    text(label);
+    match answer {
+        SwitchAnswer::None => text(b"none\n"),
+        SwitchAnswer::Discarded => text(b"discarded\n"),
+        SwitchAnswer::Cut => text(b"cut\n"),
+        SwitchAnswer::Refused(n) => refused(n),
     }
 }
 
@@ -73,11 +146,9 @@ pub fn tally(label: &[u8], answer: TallyAnswer) {
             remaining,
             escape_byte,
         } => {
-            two_digits((source / 256) as u8);
-            two_digits((source % 256) as u8);
+            four_digits(source);
             text(b" ");
-            two_digits((dest / 256) as u8);
-            two_digits((dest % 256) as u8);
+            four_digits(dest);
             text(b" ");
             decimal(remaining as u64);
             if escape_byte {

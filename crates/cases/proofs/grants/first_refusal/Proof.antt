@@ -1,8 +1,8 @@
 -- `first_refusal` ends: the rounds are counted up to 1,000. Assumes nothing.
 use Prim.Native.Nat.{_≤_, _-_}
 use borrow.Author.Needs.{needs}
-use Rattle.runs.proofs.grants.first_refusal.Statement.{statement}
-use Rattle.runs.proofs.grants.first_refusal.Tie as tie
+use Rattle.cases.proofs.grants.first_refusal.Statement.{statement}
+use Rattle.cases.proofs.grants.first_refusal.Tie as tie
 
 abbrev Inv-loop : tie.InvT-loop
 Inv-loop c₀ round₀ c round = round ≤ 1000

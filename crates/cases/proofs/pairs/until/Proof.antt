@@ -1,8 +1,8 @@
 -- `until` ends: the turns run out where the pairs do not come. Assumes nothing.
 use Prim.Native.Nat.{_≤_}
 use borrow.Author.Needs.{needs}
-use Rattle.runs.proofs.pairs.until.Statement.{statement}
-use Rattle.runs.proofs.pairs.until.Tie as tie
+use Rattle.cases.proofs.pairs.until.Statement.{statement}
+use Rattle.cases.proofs.pairs.until.Tie as tie
 
 abbrev Inv-loop : tie.InvT-loop
 Inv-loop wanted run₀ turns₀ run turns = turns ≤ 200
