@@ -11,6 +11,7 @@ use Rattle.transfer.specs.Latch.{latchedBlock, latchedOf, unclaimed, lat
 use Rattle.transfer.specs.Pair.{movingOf, leftAfter, cursorAfter, blockAfter, advancedOf, pairOf, nextByteOf, withQuota, drainOf}
 use Rattle.transfer.specs.declared.pair.NextAnswer.the-variants.{Pair, None}
 use Rattle.transfer.specs.declared.pair.NextByte.{NextByte}
+use Rattle.transfer.proofs.Steps.{block-falls}
 
 either : (b : Bool) (x y n : ℕ) → x ≤ n → y ≤ n → cond b x y ≤ n
 either true x y n p q = p
@@ -26,7 +27,7 @@ unfolding advancedOf cursorAfter blockAfter
 advanced d k =
     record {
       quota = omega (arith, k .quota);
-      block = omega (arith, k .block);
+      block = omega (arith, block-falls d, k .block);
       left = left-bound (d .cursor) (k .left);
       idle = λ none. rw (eq-eqb _ _ none);
     }

@@ -1,5 +1,5 @@
 -- The pair and the escape drain do what document 01 says of them (specs, `PairSteps`). Assumes nothing.
-use Prim.Native.Nat.{_<_}
+use Prim.Native.Nat.{_-_, _<_}
 use native.Mathlib.Omega.{arith}
 use mathlib.Core.Path.{_≡_, refl, sym, _∙_}
 use mathlib.Core.Bool.{Bool, true, false, not, _&&_, _||_, and-true, and-false, false≢true}
@@ -27,6 +27,11 @@ never d none =
     let t : ltb 0 (d .cursor .remaining) ≡ false = le-ltb 0 (d .cursor .remaining) (omega arith) in
     rw t (still (ltb 0 (d .block .remaining)) (isGeneral (d .cursor .mode)) (not (activeOf (d .block .«ready_in»))))
 
+-- at a carry too
+pub block-falls : (d : VramDma) → advancedOf d .block .remaining ≡ d .block .remaining - 1
+unfolding advancedOf blockAfter
+block-falls d = refl
+
 module _ (d : VramDma) (r : Ready d) where
   pub steps : nextByteOf d ≡ record { answer = Pair (pairOf (d .cursor)); dma = advancedOf d }
   unfolding nextByteOf
@@ -44,12 +49,12 @@ module _ (d : VramDma) (r : Ready d) where
         counted = λ unpaid inside. rw (ne-eqb _ _ inside, unpaid) (omega (arith, left));
         escaped = λ owed inside. rw (ne-eqb _ _ inside, owed);
         paid = refl;
-        block = refl;
+        block = block-falls d;
         last = λ one. (rw (eq-eqb _ _ one), rw (eq-eqb _ _ one, and-false), rw (eq-eqb _ _ one, and-false));
         not-last = λ more. (rw (ne-eqb _ _ more), rw (ne-eqb _ _ more, and-true), rw (ne-eqb _ _ more, and-true));
         source = refl;
         dest = refl;
-        carried = λ edge. (rw edge, rw (eq-eqb _ _ edge), refl);
+        carried = λ edge. (rw edge, rw (eq-eqb _ _ edge), block-falls d);
         ended = λ none. (rw (eq-eqb _ _ none), rw (eq-eqb _ _ none, and-false));
         going = λ some. (rw (ne-eqb _ _ some), rw (ne-eqb _ _ some, and-true));
       }
