@@ -1,9 +1,10 @@
--- What an accepted read gives and an accepted write leaves, as laws: what callers cite in place of the definitions.
--- Assumes nothing.
+-- What an accepted read gives and what a write leaves, accepted or declined, as laws: what callers cite in place of the
+-- definitions. Assumes nothing.
 use Prim.Native.Nat.{ℕ}
 use mathlib.Core.Path.{_≡_}
 use mathlib.Core.Bool.{true, false}
 use mathlib.Core.List.{List}
+use lib.Dec.{eqb}
 use lib.ListN.{length}
 use Rattle.console.specs.Reached.{unreached}
 use Rattle.console.specs.declared.Cgb.{Cgb}
@@ -15,6 +16,11 @@ use Rattle.registers.specs.declared.WriteInput.{WriteInput}
 use Rattle.engine.specs.Access.{accessRefusal, readOf, writeOf}
 use Rattle.engine.specs.declared.answer.ByteAnswer.the-variants as byte
 use Rattle.engine.specs.declared.answer.DoneAnswer.the-variants as done
+
+-- declined, the state is that of before
+pub write-declined : (s : Cgb) (w : WriteInput) (a n : ℕ) → eqb (accessRefusal s n a) 0 ≡ false → writeOf s w a n .state ≡ s
+unfolding writeOf
+write-declined s w a n refused = rw refused
 
 module _ (s : Cgb) (reached : unreached s ≡ false) (a : ℕ) (mapped : isMapped (placeOf a) ≡ true) where
   -- a mapped address of a state that passes 7, with work RAM of the right length, is not refused
