@@ -90,6 +90,9 @@ drains :
 unfolding advancedOf cursorAfter
 drains d owed moving = rw (drained d owed moving, steps (withQuota 1 d) (one d moving)) (refl, refl)
 
+drain-moves : (d : VramDma) → d .cursor .«escape_byte» ≡ true → movingOf d ≡ true → Moved (withQuota 1 d) (drainOf d .dma)
+drain-moves d owed moving = rw (drained d owed moving) (moves (withQuota 1 d) (one d moving))
+
 left-false : (a b : Bool) → a ≡ false → (a && b) ≡ false
 left-false false b p = refl
 left-false true b p = absurd (false≢true (sym p))
@@ -111,6 +114,7 @@ pair-steps =
       no-quota = no-quota;
       not-moving = not-moving;
       drains = drains;
+      drain-moves = drain-moves;
       none-owed = none-owed;
       owed-still = owed-still;
     }

@@ -4,7 +4,7 @@ use mathlib.Core.Path.{_≡_}
 use mathlib.Core.Bool.{true, false}
 use Rattle.console.specs.declared.vram_dma.TransferMode.the-variants as mode
 use Rattle.console.specs.declared.vram_dma.VramDma.{VramDma}
-use Rattle.transfer.specs.Pair.{movingOf, pairOf, nextByteOf, drainOf}
+use Rattle.transfer.specs.Pair.{movingOf, pairOf, nextByteOf, withQuota, drainOf}
 use Rattle.transfer.specs.declared.pair.NextAnswer.the-variants.{Pair, None}
 
 -- "if quota > 0 and the engine is moving"
@@ -51,6 +51,8 @@ pub record PairSteps : Type 0 where
   pub drains :
       (d : VramDma) → d .cursor .«escape_byte» ≡ true → movingOf d ≡ true →
       (drainOf d .answer ≡ Pair (pairOf (d .cursor))) × (drainOf d .dma .cursor .quota ≡ 0)
+  -- and the engine after it is that of a pair: the drain brings a quota of 1 for it, whatever quota stood
+  pub drain-moves : (d : VramDma) → d .cursor .«escape_byte» ≡ true → movingOf d ≡ true → Moved (withQuota 1 d) (drainOf d .dma)
   -- "else it changes nothing"
   pub none-owed : (d : VramDma) → d .cursor .«escape_byte» ≡ false → drainOf d ≡ record { answer = None; dma = d }
   pub owed-still : (d : VramDma) → movingOf d ≡ false → drainOf d ≡ record { answer = None; dma = d }
