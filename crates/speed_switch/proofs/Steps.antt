@@ -2,14 +2,17 @@
 use Prim.Native.Nat.{ℕ, _-_, _<_}
 use native.Mathlib.Omega.{arith}
 use mathlib.Core.Path.{_≡_, refl}
-use mathlib.Core.Bool.{Bool, true, false, not, _&&_, false≢true}
+use mathlib.Core.Bool.{Bool, true, false, cond, not, _&&_, and-false, false≢true}
 use lib.Dec.{ltb}
-use borrow.Author.Tests.{lt-ltb, le-ltb, ne-eqb}
-use Rattle.countdown.specs.Countdown.{armed, activeOf}
+use borrow.Author.Tests.{lt-ltb, le-ltb, eq-eqb, ne-eqb}
+use Rattle.countdown.specs.Countdown.{armed, cleared, activeOf}
+use Rattle.console.specs.Set.{withCursorMode, withCursorEscapeByte, withBlockRemaining, withBlockReadyIn, withBlockSetupCells, withArbGrantedAhead, withArbGrantCounted}
+use Rattle.console.specs.declared.Cgb.{Cgb}
 use Rattle.console.specs.declared.vram_dma.TransferMode.the-variants as mode
 use Rattle.console.specs.declared.vram_dma.VramDma.{VramDma}
-use Rattle.speed_switch.specs.Switch.{readyBlock, outcomeOf, ungranted, cutOf, discardedOf, gradedOf, upwardOf, engineAfter, blackoutOf, debitAfter}
-use Rattle.speed_switch.specs.Steps.{SwitchSteps}
+use Rattle.speed_switch.specs.Switch.{readyBlock, outcomeOf, ungranted, cutOf, discardedOf, gradedOf, upwardOf, engineAfter, blackoutOf, debitAfter, switchedOf}
+use Rattle.speed_switch.specs.Steps.{everyArb, after, Switches, SwitchSteps}
+use Rattle.speed_switch.specs.declared.switch.SwitchInput.{SwitchInput}
 use Rattle.speed_switch.specs.declared.switch.SwitchOutcome.the-variants.{None, Discarded, Cut}
 
 -- a ready block has bytes
@@ -30,10 +33,17 @@ module _ (d : VramDma) (some : ltb 0 (d .block .remaining) ≡ true) where
   unfolding gradedOf
   graded-discard ready = rw (some, ready)
 
-  lowered : (ready : Bool) → readyBlock d ≡ ready → upwardOf d .arb .«granted_ahead» ≡ d .arb .«granted_ahead» - 1
+  lowered :
+      (ready : Bool) → readyBlock d ≡ ready →
+      upwardOf d .arb ≡ everyArb (withArbGrantedAhead (d .arb .«granted_ahead» - 1) (withArbGrantCounted false (d .arb)))
   unfolding upwardOf cutOf discardedOf ungranted
   lowered true ready = rw (graded-cut ready)
   lowered false ready = rw (graded-discard ready)
+
+lowers-only :
+    (d : VramDma) → 0 < d .block .remaining →
+    upwardOf d .arb ≡ everyArb (withArbGrantedAhead (d .arb .«granted_ahead» - 1) (withArbGrantCounted false (d .arb)))
+lowers-only d some = lowered d (lt-ltb 0 (d .block .remaining) some) (readyBlock d) refl
 
 cuts :
     (d : VramDma) → readyBlock d ≡ true →
@@ -47,6 +57,14 @@ cuts d ready =
     let g : gradedOf d ≡ cutOf (ungranted d) = graded-cut d (latched d ready) ready in
     (rw (latched d ready, ready), rw g, rw g, rw g, rw g)
 
+cuts-only :
+    (d : VramDma) → readyBlock d ≡ true →
+    (upwardOf d .cursor ≡ withCursorMode mode.Idle (withCursorEscapeByte true (d .cursor))) ×
+    (upwardOf d .block ≡ withBlockRemaining 1 (d .block))
+unfolding upwardOf cutOf ungranted
+cuts-only d ready =
+    let g : gradedOf d ≡ cutOf (ungranted d) = graded-cut d (latched d ready) ready in (rw g, rw g)
+
 discards :
     (d : VramDma) → 0 < d .block .remaining → readyBlock d ≡ false →
     (outcomeOf true d ≡ Discarded) × (upwardOf d .block .remaining ≡ 0) × (upwardOf d .cursor ≡ d .cursor)
@@ -56,10 +74,30 @@ discards d some ready =
     let g : gradedOf d ≡ discardedOf (ungranted d) = graded-discard d t ready in
     (rw (t, ready), rw g, rw g)
 
+discards-only :
+    (d : VramDma) → 0 < d .block .remaining → readyBlock d ≡ false →
+    upwardOf d .block ≡ withBlockRemaining 0 (withBlockReadyIn cleared (withBlockSetupCells cleared (d .block)))
+unfolding upwardOf discardedOf ungranted
+discards-only d some ready = rw (graded-discard d (lt-ltb 0 (d .block .remaining) some) ready)
+
 no-block : (d : VramDma) → d .block .remaining ≡ 0 → (outcomeOf true d ≡ None) × (upwardOf d .cursor ≡ d .cursor) × (upwardOf d .block ≡ d .block)
 unfolding outcomeOf upwardOf gradedOf
 no-block d none =
     let t : ltb 0 (d .block .remaining) ≡ false = le-ltb 0 (d .block .remaining) (omega arith) in (rw t, rw t, rw t)
+
+no-block-arb : (d : VramDma) → d .block .remaining ≡ 0 → upwardOf d .arb ≡ everyArb (d .arb)
+unfolding upwardOf gradedOf
+no-block-arb d none = rw (le-ltb 0 (d .block .remaining) (omega arith))
+
+graded-oam : (latched ready : Bool) (d : VramDma) → cond latched (cond ready (cutOf (ungranted d)) (discardedOf (ungranted d))) d .oam ≡ d .oam
+unfolding cutOf discardedOf ungranted
+graded-oam true true d = refl
+graded-oam true false d = refl
+graded-oam false ready d = refl
+
+keeps-oam : (d : VramDma) → upwardOf d .oam ≡ d .oam
+unfolding upwardOf gradedOf
+keeps-oam d = graded-oam (ltb 0 (d .block .remaining)) (readyBlock d) d
 
 every : (d : VramDma) → (upwardOf d .arb .pend ≡ false) × (upwardOf d .arb .«wake_pend_blind» ≡ armed 6)
 unfolding upwardOf
@@ -77,15 +115,39 @@ debit-kept : (debit : Bool) (phase : ℕ) → debitAfter false debit phase ≡ d
 debit-kept true phase = refl
 debit-kept false phase = refl
 
+pub switches : (i : SwitchInput) (s : Cgb) → Switches i s
+unfolding switchedOf outcomeOf engineAfter blackoutOf
+switches i s =
+    record {
+      speed = refl;
+      key1 = refl;
+      anchor = refl;
+      upward = λ single. (rw single, rw single);
+      downward = λ double. (rw double, rw double);
+      edges-up = λ single calm. (λ none. rw (single, calm, none), λ one. rw (single, calm, one));
+      edges-down = λ double calm. (λ none. rw (double, calm, none), λ one. rw (double, calm, one));
+      edges-ready = λ ready. (λ single. rw (single, ready), λ double. rw (double, ready));
+      debit-set = λ single none third. rw (single, none, eq-eqb _ _ third);
+      debit-not-set = λ single other. rw (single, ne-eqb _ _ other, and-false);
+      debit-spent = λ single one. rw (single, one);
+      debit-kept = λ double. rw double;
+      rest = refl;
+    }
+
 pub switch-steps : SwitchSteps
 unfolding blackoutOf
 switch-steps =
     record {
-      lowers = λ d some. lowered d (lt-ltb 0 (d .block .remaining) some) (readyBlock d) refl;
+      lowers = λ d some. rw (lowers-only d some);
+      lowers-only = lowers-only;
       cuts = cuts;
+      cuts-only = cuts-only;
       discards = discards;
+      discards-only = discards-only;
       every = every;
+      keeps-oam = keeps-oam;
       no-block = no-block;
+      no-block-arb = no-block-arb;
       downward = downward;
       counts = (refl, refl);
       debited = (refl, refl);
@@ -93,4 +155,5 @@ switch-steps =
       debit-set = (refl, λ phase. refl);
       debit-not-set = λ phase other. rw (ne-eqb phase 3 other);
       debit-kept = debit-kept;
+      switches = switches;
     }
