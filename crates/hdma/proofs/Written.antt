@@ -11,7 +11,7 @@ use Rattle.transfer.specs.Latch.{latchedOf, latchedBlock}
 use Rattle.hdma.specs.Hdma5.{lengthOf, grantsCleared, armedOf, cancelledOf, startedOf, hdma5Written}
 
 -- the write with its three tests as flags: bit 7, the LCD, armed
-chosen : Bool → Bool → Bool → ℕ → VramDma → VramDma
+unfoldable pub chosen : Bool → Bool → Bool → ℕ → VramDma → VramDma
 chosen arms lcd armed n d = cond arms (armedOf n lcd d) (cond armed (cancelledOf n d) (startedOf n d))
 
 -- what every write to FF55 leaves: the new length; pointers, quota and an owed escape as they were; a block of at most 16

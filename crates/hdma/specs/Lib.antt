@@ -1,2 +1,3 @@
 pub mod Pointers
 pub mod Hdma5
+pub mod Steps
