@@ -4,3 +4,4 @@ pub mod Locks
 pub mod Key1
 pub mod Mapped
 pub mod Keeps
+pub mod Steps

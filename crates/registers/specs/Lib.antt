@@ -1,3 +1,4 @@
 pub mod Map
 pub mod Read
 pub mod Write
+pub mod Steps

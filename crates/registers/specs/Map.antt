@@ -13,7 +13,7 @@ pub data Place : Type 0 where
   register : Register → Place
   unmapped : Place
 
--- "D000h up in bank FF70 (0 means 1)"
+-- section 3: "D000h up in bank FF70 (0 means 1)"
 abbrev pub wramBank : ℕ → ℕ
 wramBank svbk = cond (eqb svbk 0) 1 svbk
 

@@ -17,7 +17,8 @@ key1Byte double armed = 0x7E + 128 * cond double 1 0 + cond armed 1 0
 abbrev pub lockedByte : Cgb → ℕ → ℕ
 lockedByte s byte = cond (s .«dmg_compat») 0xFF byte
 
--- the byte of each register; bits that a register lacks read 1, and HDMA1 to HDMA4 are write-only
+-- the byte of each register: HDMA1 to HDMA4 are write-only and read FF, KEY0 reads 00, and of the others the bits that a
+-- register lacks read 1
 abbrev pub registerByte : Cgb → Register → ℕ
 registerByte s KEY0 = lockedByte s 0x00
 registerByte s KEY1 = lockedByte s (key1Byte (s .«double_speed») (s .«key1_armed»))
