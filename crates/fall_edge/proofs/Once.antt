@@ -1,8 +1,8 @@
--- Running falls commit at most once in a mode-0 period (specs, `Once`). Assumes nothing.
-use Prim.Native.Nat.{_≤_}
+-- Running falls commit at most once in a mode-0 period (specs, `OnceAmong` and `Once`). Assumes nothing.
+use Prim.Native.Nat.{ℕ, _+_, _≤_}
 use native.Mathlib.Omega.{arith}
 use mathlib.Core.Path.{_≡_, refl, sym, _∙_}
-use mathlib.Core.Bool.{Bool, true, false, and-false, false≢true}
+use mathlib.Core.Bool.{Bool, true, false, cond, and-false, false≢true}
 use mathlib.Core.List.{List, [], _∷_}
 use lib.Dec.{lit≤}
 use borrow.Author.Tests.{eq-eqb}
@@ -10,7 +10,7 @@ use Rattle.console.specs.declared.vram_dma.VramDma.{VramDma}
 use Rattle.fall_edge.specs.View.{viewOf}
 use Rattle.fall_edge.specs.Stages.{settledOf, observedArb, observedOf, judgedBlock, ungrantedArb, probationOf, droppedBlock, haltLatchArb, haltLatchOf, blindsArb, blindsOf, commits, commitBlock, commitOf, tenureOf, pends, pendArb, pendOf, readyBlock, readinessOf, refilledOf, seizedBlock, seizureOf}
 use Rattle.fall_edge.specs.Fall.{startedOf, servedOf, fallOf}
-use Rattle.fall_edge.specs.Once.{Runs, AllRun, commitsIn, Once}
+use Rattle.fall_edge.specs.Once.{Runs, AllRun, Between, Period, over, fall, OnceAmong, commitsIn, Once}
 use Rattle.fall_edge.specs.declared.FallInput.{FallInput}
 use Rattle.fall_edge.specs.declared.View.{View}
 use Rattle.fall_edge.proofs.Steps.{Course, settled, gated, overflowed, served, course, committed-step}
@@ -78,23 +78,39 @@ module _ (i : FallInput) (double : Bool) (d : VramDma) (r : Runs i) where
   commit-spends : fallOf i double d .claim .committed ≡ true → Spent (fallOf i double d .dma)
   commit-spends c = record { taken = committed-step i double d c .1; pend = committed-step i double d c .3 }
 
-spent-none : (is : List FallInput) (double : Bool) (d : VramDma) → AllRun is → Spent d → commitsIn is double d ≡ 0
-spent-none [] double d a k = refl
-spent-none (i ∷ is) double d a k =
-    let n : (fallOf i double d .claim .committed ≡ false) × Spent (fallOf i double d .dma) = spent-step i double d (a .0) (course i double d) k in
-    let rest : commitsIn is double (fallOf i double d .dma) ≡ 0 = spent-none is double (fallOf i double d .dma) (a .1) (n .1) in
-    rw (n .0) (omega arith)
+-- what comes between keeps a spent period spent
+kept-spent : {d e : VramDma} → Between d e → Spent d → Spent e
+kept-spent b k = record { taken = b .taken (k .taken); pend = b .pend (k .pend) }
+
+spent-none : {d : VramDma} {n : ℕ} → Period d n → Spent d → n ≡ 0
+spent-none (over d) k = refl
+spent-none (fall i double d e n r b rest) k =
+    let s : (fallOf i double d .claim .committed ≡ false) × Spent (fallOf i double d .dma) = spent-step i double d r (course i double d) k in
+    let z : n ≡ 0 = spent-none rest (kept-spent b (s .1)) in
+    rw (s .0) (omega arith)
 
 one-fall :
-    (c : Bool) (i : FallInput) (is : List FallInput) (double : Bool) (d : VramDma) →
-    fallOf i double d .claim .committed ≡ c → Runs i → AllRun is → commitsIn is double (fallOf i double d .dma) ≤ 1 →
-    commitsIn (i ∷ is) double d ≤ 1
-one-fall true i is double d e r a h =
-    let z : commitsIn is double (fallOf i double d .dma) ≡ 0 = spent-none is double (fallOf i double d .dma) a (commit-spends i double d r e) in
-    rw (e, z) (lit≤ tt)
-one-fall false i is double d e r a h = rw e (omega arith)
+    (c : Bool) (i : FallInput) (double : Bool) (d e : VramDma) (n : ℕ) →
+    fallOf i double d .claim .committed ≡ c → Runs i → Between (fallOf i double d .dma) e → Period e n → n ≤ 1 →
+    cond (fallOf i double d .claim .committed) 1 0 + n ≤ 1
+one-fall true i double d e n c r b rest h =
+    let z : n ≡ 0 = spent-none rest (kept-spent b (commit-spends i double d r c)) in rw c (omega arith)
+one-fall false i double d e n c r b rest h = rw c (omega arith)
+
+at-most : {d : VramDma} {n : ℕ} → Period d n → n ≤ 1
+at-most (over d) = lit≤ tt
+at-most (fall i double d e n r b rest) =
+    one-fall (fallOf i double d .claim .committed) i double d e n refl r b rest (at-most rest)
+
+pub once-among : OnceAmong
+once-among d n period = at-most period
+
+-- a list of falls is such a run, with nothing between
+listed : (is : List FallInput) (double : Bool) (d : VramDma) → AllRun is → Period d (commitsIn is double d)
+listed [] double d a = over d
+listed (i ∷ is) double d a =
+    let e : VramDma = fallOf i double d .dma in
+    fall i double d e (commitsIn is double e) (a .0) (record { taken = λ t. t; pend = λ p. p }) (listed is double e (a .1))
 
 pub once : Once
-once [] double d a = lit≤ tt
-once (i ∷ is) double d a =
-    one-fall (fallOf i double d .claim .committed) i is double d refl (a .0) (a .1) (once is double (fallOf i double d .dma) (a .1))
+once is double d a = at-most (listed is double d a)

@@ -162,7 +162,7 @@ commits v d =
 abbrev pub overflows : View → VramDma → Bool
 overflows v d = commits v d && not (d .arb .«grant_counted») && eqb (d .arb .«granted_ahead») 255
 
--- only the grant brought the commit: the thaw lies outside mode 0
+-- the commit is granted, outside mode 0
 abbrev pub drives : View → HaltArbiter → Bool
 drives v a = a .«pend_granted» && not (v .«in_hblank»)
 

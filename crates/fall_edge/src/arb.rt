@@ -252,7 +252,7 @@ pub fn step_blinds(a: HaltArbiter) -> HaltArbiter
     }
 }
 
-// Only the grant brought the commit: the thaw lies outside mode 0.
+// The commit is granted, outside mode 0.
 fn drives(a: HaltArbiter, v: View) -> bool
     ensures { λ r. ⌜ r ≡ drives v a ⌝ }
 {
