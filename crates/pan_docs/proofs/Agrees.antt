@@ -15,16 +15,22 @@ use Rattle.console.specs.declared.vram_dma.TransferMode.the-variants as mode
 use Rattle.console.specs.Set.{withFf72, withFf73, withFf74, withFf75, withSvbk}
 use Rattle.console.proofs.Reached.{reached, passes}
 use Rattle.hdma.specs.Hdma5.{hdma5Written, armedOf, cancelledOf, startedOf, statusByte, visible}
-use Rattle.transfer.specs.Questions.{writeAddress}
+use Rattle.transfer.specs.Questions.{writeAddress, seizesBus}
 use Rattle.registers.specs.Map.{placeOf, isMapped, bankedRam, locksAt}
 use Rattle.registers.specs.Map as port
 use Rattle.registers.specs.Write.{stateAt, withSource, withDest, mapWriteOf, storedOf}
 use Rattle.registers.specs.declared.WriteInput.{WriteInput}
-use Rattle.hdma.proofs.Written.{keeps, arms, starts}
+use Rattle.hdma.proofs.Written.{keeps, arms, disarms, starts}
 use Rattle.registers.proofs.Places.{at-d}
 use Rattle.engine.specs.Access.{readOf, writeOf, accessRefusal}
+use Rattle.engine.specs.Fall.{fallCallOf, fallRefusal, fallenState}
 use Rattle.engine.specs.Speed.{defers, switchRefusal, switchCallOf}
-use Rattle.speed_switch.specs.Switch.{switchedOf}
+use Rattle.fall_edge.specs.View.{viewOf}
+use Rattle.fall_edge.specs.Stages.{observedArb, observedOf, judgedBlock, ungrantedArb, probationOf, droppedBlock, haltLatchArb, haltLatchOf, agedArb, pendedArb, grants, grantedArb, gatedOf, refilledOf, blindsArb, blindsOf, commitBlock, commitArb, commitOf, tenureArb, tenureOf, pendArb, pendOf, readyBlock, readinessOf, seizedBlock, seizureOf}
+use Rattle.fall_edge.specs.Fall as stages
+use Rattle.fall_edge.specs.Fall.{fallOf, ranOf, decidedOf, servedOf}
+use Rattle.transfer.specs.Pair.{movingOf}
+use Rattle.speed_switch.specs.Switch.{switchedOf, blackoutOf}
 use Rattle.speed_switch.specs.declared.switch.SwitchInput.{SwitchInput}
 use Rattle.engine.specs.declared.answer.ByteAnswer.the-variants.{Byte}
 use Rattle.engine.proofs.Accepted.{read-accepted, write-unlocked}
@@ -73,6 +79,20 @@ module _ (s : Cgb) (m : CgbMode s) where
   unfolding placeOf
   dma v lcd = rw (written 0xFF55 v lcd refl)
 
+  key0-locked : (v : ℕ) (lcd : Bool) → after 0xFF4C v lcd s ≡ s
+  unfolding placeOf
+  key0-locked v lcd = rw (written 0xFF4C v lcd refl)
+
+  pointers-hidden : Reads s 0xFF51 pan.writeOnly × Reads s 0xFF52 pan.writeOnly × Reads s 0xFF53 pan.writeOnly × Reads s 0xFF54 pan.writeOnly
+  unfolding placeOf
+  pointers-hidden = (
+    read-accepted s (m .reached) 0xFF51 refl,
+    read-accepted s (m .reached) 0xFF52 refl,
+    read-accepted s (m .reached) 0xFF53 refl,
+    read-accepted s (m .reached) 0xFF54 refl,
+  )
+
+  -- the port stores the length with every write, also where Pan Docs does not
   length-set : (v : ℕ) (lcd : Bool) → after 0xFF55 v lcd s .«vram_dma» .cursor .remaining ≡ pan.length v
   length-set v lcd = rw (dma v lcd, keeps v lcd (s .«vram_dma») .left) (bits.length v)
 
@@ -80,10 +100,15 @@ module _ (s : Cgb) (m : CgbMode s) where
   hblank-starts v lcd h e = rw (dma v lcd) (arms v lcd (s .«vram_dma») (bits.bit7-set v h e))
 
   general-starts :
-      (v : ℕ) (lcd : Bool) → v < 256 → pan.bit 7 v ≡ 0 → s .«vram_dma» .cursor .mode ≡ mode.Idle →
+      (v : ℕ) (lcd : Bool) → v < 256 → pan.bit 7 v ≡ 0 → isHBlank (s .«vram_dma» .cursor .mode) ≡ false →
       after 0xFF55 v lcd s .«vram_dma» .cursor .mode ≡ mode.General
-  general-starts v lcd h e idle =
-      rw (dma v lcd) (starts v lcd (s .«vram_dma») (bits.bit7-clear v h e) (ap isHBlank idle))
+  general-starts v lcd h e none = rw (dma v lcd) (starts v lcd (s .«vram_dma») (bits.bit7-clear v h e) none)
+
+  cancel-stops :
+      (v : ℕ) (lcd : Bool) → v < 256 → pan.bit 7 v ≡ 0 → s .«vram_dma» .cursor .mode ≡ mode.HBlank →
+      after 0xFF55 v lcd s .«vram_dma» .cursor .mode ≡ mode.Idle
+  cancel-stops v lcd h e runs =
+      rw (dma v lcd) (disarms v lcd (s .«vram_dma») (bits.bit7-clear v h e) (ap isHBlank runs))
 
   status-reads : Reads s 0xFF55 (statusByte (s .«vram_dma»))
   unfolding placeOf
@@ -187,6 +212,7 @@ module _ (s : Cgb) (i : SwitchInput) where
 pub agreement : Agreement
 agreement =
     record {
+      key0-locked = λ s v lcd m. key0-locked s m v lcd;
       key1-reads = key1-reads;
       key1-arms = λ s v lcd m. key1-arms s m v lcd;
       switch-flips = switch-flips;
@@ -195,9 +221,11 @@ agreement =
       vbk-reads = vbk-reads;
       source-set = λ s high low lcd m h. source-set s m high low lcd h;
       destination-set = λ s high low lcd m h. destination-set s m high low lcd h;
-      length-set = λ s v lcd m. length-set s m v lcd;
+      pointers-hidden = pointers-hidden;
+      length-set = λ s v lcd m starts. length-set s m v lcd;
       hblank-starts = λ s v lcd m. hblank-starts s m v lcd;
       general-starts = λ s v lcd m. general-starts s m v lcd;
+      cancel-stops = λ s v lcd m. cancel-stops s m v lcd;
       running-reads = λ s n m. running-reads s m n;
       complete-reads = complete-reads;
       svbk-selects = λ s v lcd m. svbk-selects s m v lcd;
@@ -211,10 +239,19 @@ agreement =
     }
 
 pub difference : Difference
-unfolding readOf writeOf accessRefusal unreached placeOf mapWriteOf storedOf locksAt hdma5Written armedOf cancelledOf startedOf statusByte powerOnOf dmaAtRest
+unfolding readOf writeOf accessRefusal unreached placeOf mapWriteOf storedOf locksAt hdma5Written armedOf cancelledOf startedOf statusByte powerOnOf dmaAtRest fallCallOf fallRefusal fallenState fallOf viewOf ranOf decidedOf stages.startedOf servedOf observedArb observedOf judgedBlock ungrantedArb probationOf droppedBlock haltLatchArb haltLatchOf agedArb pendedArb grants grantedArb gatedOf refilledOf blindsArb blindsOf commitBlock commitArb commitOf tenureArb tenureOf pendArb pendOf readyBlock readinessOf seizedBlock seizureOf movingOf seizesBus switchCallOf switchRefusal switchedOf blackoutOf defers
 difference =
     record {
       cancel-stores = (λ wram whole. rw whole, refl);
-      destination-kept = refl;
+      destination-kept = (refl, refl);
+      counted-at-commit = (refl, λ wram whole. rw whole, refl);
       general-seen = λ wram whole. rw whole;
+      time-double = (refl, refl);
+      halt-counts = (λ wram whole. rw whole, refl);
+      switch-length = (refl, refl);
+      switch-held = refl;
+      vbk-unlocked = λ wram whole. rw whole;
+      svbk-read-back = λ wram whole. rw whole;
+      key0-reads = λ wram whole. rw whole;
+      extra-oam = λ wram whole. rw whole;
     }

@@ -1,10 +1,12 @@
--- Where the port's calls agree with Pan Docs, a field for each of its facts; where they do not, the smallest run that shows
--- it (docs/DIFFERENCES.md). The calls are the engine's, on any state that passes refusal 7, in CGB mode.
+-- Where the port's calls agree with Pan Docs, fact by fact (`Agreement`), and where they do not (`Difference`): of the rows
+-- of docs/DIFFERENCES.md, part II, those whose run needs no bus call; the other rows name what holds them. The calls are
+-- the engine's, on any state that passes refusal 7, in CGB mode unless said otherwise.
 use Prim.Native.Nat.{ℕ, _+_, _*_, _<_, _≤_}
 use mathlib.Core.Path.{_≡_}
 use mathlib.Core.Bool.{Bool, true, false, not}
 use mathlib.Core.List.{List}
 use lib.ListN as list
+use Rattle.console.specs.Modes.{isHBlank}
 use Rattle.console.specs.PowerOn.{powerOnOf}
 use Rattle.console.specs.Reached.{unreached}
 use Rattle.console.specs.declared.Cgb.{Cgb}
@@ -13,8 +15,11 @@ use Rattle.memory.specs.Lengths.{wramLength}
 use Rattle.transfer.specs.Questions.{writeAddress}
 use Rattle.estimate.specs.Estimate.{estimateOf}
 use Rattle.engine.specs.Access.{readOf, writeOf}
+use Rattle.engine.specs.Fall.{fallCallOf}
 use Rattle.engine.specs.Speed.{switchRefusal, switchCallOf}
 use Rattle.engine.specs.declared.answer.ByteAnswer.the-variants.{Byte}
+use Rattle.engine.specs.declared.answer.SwitchAnswer.the-variants.{Refused}
+use Rattle.fall_edge.specs.declared.FallInput.{FallInput}
 use Rattle.speed_switch.specs.declared.switch.SwitchInput.{SwitchInput}
 use Rattle.registers.specs.Map as port
 use Rattle.pan_docs.specs.PanDocs as pan
@@ -36,6 +41,8 @@ abbrev pub Reads : Cgb → ℕ → ℕ → Type 0
 Reads s a v = (wram : List ℕ) → Whole wram → readOf s wram a ≡ Byte v
 
 pub record Agreement : Type 0 where
+  -- KEY0 is locked
+  pub key0-locked : (s : Cgb) (v : ℕ) (lcd : Bool) → CgbMode s → after 0xFF4C v lcd s ≡ s
   -- KEY1 reads the speed in bit 7 and the arming in bit 0
   pub key1-reads : (s : Cgb) → CgbMode s → Reads s 0xFF4D (pan.key1 (s .«double_speed») (s .«key1_armed»))
   -- bit 0 written to KEY1 arms the switch, and bit 7 is read-only
@@ -59,17 +66,26 @@ pub record Agreement : Type 0 where
   pub destination-set :
       (s : Cgb) (high low : ℕ) (lcd : Bool) → CgbMode s → low < 256 →
       writeAddress (after 0xFF54 low lcd (after 0xFF53 high lcd s) .«vram_dma» .cursor) ≡ pan.destination high low
-  -- FF55 sets the length
+  -- FF51 to FF54 are write-only
+  pub pointers-hidden :
+      (s : Cgb) → CgbMode s →
+      Reads s 0xFF51 pan.writeOnly × Reads s 0xFF52 pan.writeOnly × Reads s 0xFF53 pan.writeOnly × Reads s 0xFF54 pan.writeOnly
+  -- FF55 sets the length where it starts a transfer: always, but with bit 7 clear while an HBlank transfer runs
   pub length-set :
-      (s : Cgb) (v : ℕ) (lcd : Bool) → CgbMode s → after 0xFF55 v lcd s .«vram_dma» .cursor .remaining ≡ pan.length v
+      (s : Cgb) (v : ℕ) (lcd : Bool) → CgbMode s → (s .«vram_dma» .cursor .mode ≡ mode.HBlank → pan.bit 7 v ≡ 1) →
+      after 0xFF55 v lcd s .«vram_dma» .cursor .remaining ≡ pan.length v
   -- bit 7 set starts an HBlank transfer; clear, where none runs, a General one
   pub hblank-starts :
       (s : Cgb) (v : ℕ) (lcd : Bool) → CgbMode s → v < 256 → pan.bit 7 v ≡ 1 →
       after 0xFF55 v lcd s .«vram_dma» .cursor .mode ≡ mode.HBlank
   pub general-starts :
       (s : Cgb) (v : ℕ) (lcd : Bool) → CgbMode s → v < 256 → pan.bit 7 v ≡ 0 →
-      s .«vram_dma» .cursor .mode ≡ mode.Idle → after 0xFF55 v lcd s .«vram_dma» .cursor .mode ≡ mode.General
-  -- FF55 reads the blocks that remain − 1 while an HBlank transfer runs and no block is under way
+      isHBlank (s .«vram_dma» .cursor .mode) ≡ false → after 0xFF55 v lcd s .«vram_dma» .cursor .mode ≡ mode.General
+  -- bit 7 clear while one runs stops it (what FF55 then reads differs: `cancel-stores`)
+  pub cancel-stops :
+      (s : Cgb) (v : ℕ) (lcd : Bool) → CgbMode s → v < 256 → pan.bit 7 v ≡ 0 →
+      s .«vram_dma» .cursor .mode ≡ mode.HBlank → after 0xFF55 v lcd s .«vram_dma» .cursor .mode ≡ mode.Idle
+  -- FF55 reads the blocks that remain − 1 while an HBlank transfer runs, with whole blocks left and none counted out ahead
   pub running-reads :
       (s : Cgb) (remaining : ℕ) → CgbMode s → s .«vram_dma» .cursor .mode ≡ mode.HBlank →
       s .«vram_dma» .arb .«granted_ahead» ≡ 0 → s .«vram_dma» .cursor .remaining ≡ 16 * remaining → 0 < remaining → remaining ≤ 128 →
@@ -89,16 +105,49 @@ pub record Agreement : Type 0 where
   pub ff75-reads : (s : Cgb) (v : ℕ) (lcd : Bool) → CgbMode s → Reads (after 0xFF75 v lcd s) 0xFF75 (pan.ff75 v)
   -- outside CGB mode FF74 is locked and reads FF
   pub ff74-locked : (s : Cgb) → unreached s ≡ false → s .«dmg_compat» ≡ true → Reads s 0xFF74 0xFF
-  -- a block of a General transfer takes 8 M-cycles
+  -- at single speed a block of a General transfer takes 8 M-cycles
   pub time : (v : ℕ) → estimateOf v ≡ pan.mcycles v
 
--- where the port follows the Rust and not Pan Docs
+-- a fall in mode 0, of a CPU that runs or is halted
+abbrev pub mode0 : Bool → FallInput
+mode0 halted = record { mode = 0; halted = halted; «irq_latched» = false; stopped = false; «master_edge» = 0; «oam_owns_bus» = false }
+
+abbrev pub fallen : Bool → Cgb → Cgb
+fallen halted s = fallCallOf s (mode0 halted) .state
+
+-- a switch attempt with no interrupt ready, held or not
+abbrev pub attempt : Bool → SwitchInput
+attempt hold = record { hold = hold; «dot_phase» = 4; «interrupt_ready» = false; «master_edge» = 0 }
+
+-- where the port follows the Rust and not Pan Docs, each with the other's value where Pan Docs has one
 pub record Difference : Type 0 where
   -- a cancel stores the written length: 83 armed and cancelled by 00 reads 80, where Pan Docs has 83 (four blocks remained)
   pub cancel-stores :
       Reads (after 0xFF55 0x00 true (after 0xFF55 0x83 true (powerOnOf false))) 0xFF55 0x80 × (pan.cancelled 4 ≡ 0x83)
-  -- the destination keeps all 16 bits: FFF0h is stored whole, where Pan Docs keeps bits 12 to 4
+  -- the destination keeps all 16 bits: 2000h stays, which Pan Docs does not tell from 0000h
   pub destination-kept :
-      after 0xFF54 0xF0 true (after 0xFF53 0xFF true (powerOnOf false)) .«vram_dma» .cursor .dest ≡ 0xFFF0
+      (after 0xFF53 0x20 true (powerOnOf false) .«vram_dma» .cursor .dest ≡ 0x2000) × (pan.destination 0x20 0x00 ≡ pan.destination 0x00 0x00)
+  -- a block is counted out at its commit: armed with 80, two falls later FF, and no byte has moved; Pan Docs has 00
+  pub counted-at-commit :
+      (fallen false (fallen false (after 0xFF55 0x80 true (powerOnOf false))) .«vram_dma» .cursor .remaining ≡ 16) ×
+      Reads (fallen false (fallen false (after 0xFF55 0x80 true (powerOnOf false)))) 0xFF55 0xFF ×
+      (pan.running 1 ≡ 0x00)
   -- a General transfer under way is seen as bit 7 set over its length, where Pan Docs lets nobody look
-  pub general-seen : Reads (after 0xFF55 0x03 true (powerOnOf false)) 0xFF55 0x83
+  pub general-seen : Reads (after 0xFF55 0x00 true (powerOnOf false)) 0xFF55 0x80
+  -- the estimate is 8 M-cycles a block at either speed, where Pan Docs has 16 at double
+  pub time-double : (estimateOf 0x00 ≡ 8) × (pan.mcyclesDouble 0x00 ≡ 16)
+  -- an entry in a halt is counted out at once, where Pan Docs has the transfer pause
+  pub halt-counts : Reads (fallen true (after 0xFF55 0x80 true (powerOnOf false))) 0xFF55 0xFF × (pan.running 1 ≡ 0x00)
+  -- a switch blacks out 131,077 master edges upward, where Pan Docs has the CPU stand still for 2,050 M-cycles
+  pub switch-length :
+      (switchCallOf (after 0xFF4D 0x01 true (powerOnOf false)) (attempt false) .state .«speed_switch_blackout» ≡ 131077) ×
+      (pan.switchMcycles ≡ 2050)
+  -- a switch is declined under hold, where Pan Docs has a STOP with bit 0 set switch
+  pub switch-held : switchCallOf (after 0xFF4D 0x01 true (powerOnOf false)) (attempt true) .answer ≡ Refused 5
+  -- FF4F is not locked under compat, where a locked register reads FF
+  pub vbk-unlocked : Reads (powerOnOf true) 0xFF4F 0xFE
+  -- FF70 reads back the written 0, and FF4C reads 00, of which Pan Docs says nothing
+  pub svbk-read-back : Reads (after 0xFF70 0x00 true (powerOnOf false)) 0xFF70 0xF8
+  pub key0-reads : Reads (powerOnOf false) 0xFF4C 0x00
+  -- FEA0 to FEFF are 24 bytes, address bits 3 and 4 ignored, where Pan Docs lets console revisions differ
+  pub extra-oam : Reads (after 0xFEA0 0x12 true (powerOnOf false)) 0xFEA8 0x12

@@ -1,5 +1,5 @@
--- What Pan Docs (CGB Registers) says of the registers in scope, in its own terms: bits, banks, addresses, lengths. Nothing
--- of the port is imported here.
+-- Of what Pan Docs (CGB Registers) says of the registers in scope, the values that `Agreement` compares, in its own terms:
+-- bits, banks, addresses, lengths, times. Nothing of the port is imported here.
 use Prim.Native.Nat.{ℕ, _+_, _-_, _*_, _/_, _%_, _^_}
 use mathlib.Core.Bool.{Bool, cond}
 use mathlib.Core.List.{List, [], _∷_}
@@ -25,9 +25,17 @@ byte bs = bitsAfter 0 bs
 abbrev pub key1 : Bool → Bool → ℕ
 key1 double armed = byte (bitOf double ∷ 1 ∷ 1 ∷ 1 ∷ 1 ∷ 1 ∷ 1 ∷ bitOf armed ∷ [])
 
+-- a speed switch: the CPU stands still for so many M-cycles
+abbrev pub switchMcycles : ℕ
+switchMcycles = 2050
+
 -- FF4F VBK: bit 0 selects the VRAM bank, the other bits read 1
 abbrev pub vbk : ℕ → ℕ
 vbk bank = byte (1 ∷ 1 ∷ 1 ∷ 1 ∷ 1 ∷ 1 ∷ 1 ∷ bank ∷ [])
+
+-- FF51 to FF54 are write-only: no bit of them is read back, so every bit reads 1 as unused bits do
+abbrev pub writeOnly : ℕ
+writeOnly = byte (1 ∷ 1 ∷ 1 ∷ 1 ∷ 1 ∷ 1 ∷ 1 ∷ 1 ∷ [])
 
 -- FF51, FF52: the source's high and low byte; the low four bits of the address count as 0
 abbrev pub source : ℕ → ℕ → ℕ
@@ -67,3 +75,7 @@ ff75 v = byte (1 ∷ bit 6 v ∷ bit 5 v ∷ bit 4 v ∷ 1 ∷ 1 ∷ 1 ∷ 1 ∷
 -- a block takes 8 M-cycles at single speed
 abbrev pub mcycles : ℕ → ℕ
 mcycles v = 8 * blocks v
+
+-- and 16 of the shorter ones at double speed
+abbrev pub mcyclesDouble : ℕ → ℕ
+mcyclesDouble v = 16 * blocks v
