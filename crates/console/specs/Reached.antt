@@ -43,7 +43,7 @@ Reached s =
     Within (s .«vram_dma» .cursor .quota) (s .«vram_dma» .block .remaining) (s .«vram_dma» .cursor .remaining) (s .svbk)
     (s .vram .selected) (s .«vram_dma» .cursor .mode)
 
--- the part of it that the engine can change: four of the six
+-- the part of it that stands in `VramDma`: four of the six
 pub record Sound (d : VramDma) : Type 0 where
   pub quota : d .cursor .quota ≤ 2
   pub block : d .block .remaining ≤ 16

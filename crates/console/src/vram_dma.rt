@@ -79,7 +79,7 @@ pub struct HblankBlock {
     pub ready_in: Countdown,
     // Falls the bus has been seized without a break.
     pub seize_falls: u8,
-    // The block committed from a pend that a write to FF55 made.
+    // The block committed while `pend_from_arm` stood: an arm strobe's, of FF55 or of the LCD-off call.
     pub from_arm: bool,
     // Such a block awaits its sample of mode 0.
     pub arm_ready_probation: bool,
