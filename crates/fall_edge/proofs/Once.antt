@@ -2,15 +2,19 @@
 use Prim.Native.Nat.{ℕ, _+_, _≤_}
 use native.Mathlib.Omega.{arith}
 use mathlib.Core.Path.{_≡_, refl, sym, _∙_}
-use mathlib.Core.Bool.{Bool, true, false, cond, and-false, false≢true}
+use mathlib.Core.Bool.{Bool, true, false, cond, _&&_, and-false, false≢true}
 use mathlib.Core.List.{List, [], _∷_}
-use lib.Dec.{lit≤}
+use lib.Dec.{ltb, lit≤}
 use borrow.Author.Tests.{eq-eqb}
 use Rattle.console.specs.declared.vram_dma.VramDma.{VramDma}
+use Rattle.transfer.specs.Latch.{latchedBlock, latchedOf, unclaimed, latchesDark, lcdDisabledOf}
+use Rattle.transfer.specs.Pair.{movingOf, blockAfter, arbAfter, advancedOf, pairOf, nextByteOf, withQuota, drainOf}
+use Rattle.transfer.specs.declared.pair.NextAnswer.the-variants.{Pair, None}
+use Rattle.transfer.specs.declared.pair.NextByte.{NextByte}
 use Rattle.fall_edge.specs.View.{viewOf}
 use Rattle.fall_edge.specs.Stages.{settledOf, observedArb, observedOf, judgedBlock, ungrantedArb, probationOf, droppedBlock, haltLatchArb, haltLatchOf, blindsArb, blindsOf, commits, commitBlock, commitOf, tenureOf, pends, pendArb, pendOf, readyBlock, readinessOf, refilledOf, seizedBlock, seizureOf}
 use Rattle.fall_edge.specs.Fall.{startedOf, servedOf, fallOf}
-use Rattle.fall_edge.specs.Once.{Runs, AllRun, Between, Period, over, fall, OnceAmong, commitsIn, Once}
+use Rattle.fall_edge.specs.Once.{Runs, AllRun, Between, OtherCalls, Period, over, fall, OnceAmong, commitsIn, Once}
 use Rattle.fall_edge.specs.declared.FallInput.{FallInput}
 use Rattle.fall_edge.specs.declared.View.{View}
 use Rattle.fall_edge.proofs.Steps.{Course, settled, gated, overflowed, served, course, committed-step}
@@ -104,6 +108,41 @@ at-most (fall i double d e n r b rest) =
 
 pub once-among : OnceAmong
 once-among d n period = at-most period
+
+-- what keeps taken and the pend comes between
+same : {d e : VramDma} → e .block .taken ≡ d .block .taken → e .arb .pend ≡ d .arb .pend → Between d e
+same t p = record { taken = λ h. t ∙ h; pend = λ h. p ∙ h }
+
+moved : (d : VramDma) → Between d (advancedOf d)
+unfolding advancedOf blockAfter arbAfter
+moved d = same refl refl
+
+either : (b : Bool) (d : VramDma) (x y : NextByte) → Between d (x .dma) → Between d (y .dma) → Between d (cond b x y .dma)
+either true d x y p q = p
+either false d x y p q = q
+
+pair : (d : VramDma) → Between d (nextByteOf d .dma)
+unfolding nextByteOf
+pair d =
+    either (ltb 0 (d .cursor .quota) && movingOf d) d (record { answer = Pair (pairOf (d .cursor)); dma = advancedOf d }) (record { answer = None; dma = d })
+    (moved d) (same refl refl)
+
+-- a drain's pair starts from the quota 1, which is no part of it
+drain : (d : VramDma) → Between d (drainOf d .dma)
+unfolding drainOf
+drain d =
+    let p : Between (withQuota 1 d) (nextByteOf (withQuota 1 d) .dma) = pair (withQuota 1 d) in
+    either (d .cursor .«escape_byte» && movingOf d) d (nextByteOf (withQuota 1 d)) (record { answer = None; dma = d })
+    (record { taken = p .taken; pend = p .pend }) (same refl refl)
+
+lcd-off : (b : Bool) (d : VramDma) → Between d (cond b (latchedOf (unclaimed d)) (unclaimed d))
+unfolding latchedOf latchedBlock
+lcd-off true d = same refl refl
+lcd-off false d = same refl refl
+
+pub other-calls : (d : VramDma) → OtherCalls d
+unfolding lcdDisabledOf
+other-calls d = record { pair = pair d; drain = drain d; lcd-off = lcd-off (latchesDark d) d; retired = same refl refl }
 
 -- a list of falls is such a run, with nothing between
 listed : (is : List FallInput) (double : Bool) (d : VramDma) → AllRun is → Period d (commitsIn is double d)

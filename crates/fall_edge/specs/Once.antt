@@ -5,6 +5,8 @@ use mathlib.Core.Path.{_≡_}
 use mathlib.Core.Bool.{Bool, true, false, cond}
 use mathlib.Core.List.{List, [], _∷_}
 use Rattle.console.specs.declared.vram_dma.VramDma.{VramDma}
+use Rattle.transfer.specs.Latch.{lcdDisabledOf, retiredOf}
+use Rattle.transfer.specs.Pair.{nextByteOf, drainOf}
 use Rattle.fall_edge.specs.Fall.{fallOf}
 use Rattle.fall_edge.specs.declared.FallInput.{FallInput}
 
@@ -22,6 +24,13 @@ AllRun (i ∷ is) = Runs i × AllRun is
 pub record Between (d e : VramDma) : Type 0 where
   pub taken : d .block .taken ≡ true → e .block .taken ≡ true
   pub pend : d .arb .pend ≡ false → e .arb .pend ≡ false
+
+-- the calls that move bytes or end an instruction are of that kind, and so is LCD off
+pub record OtherCalls (d : VramDma) : Type 0 where
+  pub pair : Between d (nextByteOf d .dma)
+  pub drain : Between d (drainOf d .dma)
+  pub lcd-off : Between d (lcdDisabledOf d)
+  pub retired : Between d (retiredOf d)
 
 -- a run of such falls from the engine d, each at its speed, with anything of that kind after each; n is the commits in it
 pub data Period : VramDma → ℕ → Type 0 where
