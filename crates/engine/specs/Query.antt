@@ -7,6 +7,8 @@ use Rattle.console.specs.Reached.{unreached}
 use Rattle.console.specs.Refusals.{_⇒_, firstOf, answered}
 use Rattle.console.specs.declared.Cgb.{Cgb}
 use Rattle.transfer.specs.Questions as transfer
+use Rattle.speed_switch.specs.Speed.{stepsPerDot, blackoutActive, dividerActive}
+use Rattle.registers.specs.Map.{wramBank}
 use Rattle.engine.specs.Access.{byteAnswer}
 use Rattle.engine.specs.Answers.{Said, saying, bitOf, Answers, flagSays, byteSays, tallySays, statusSays, claimSays, modeSays}
 use Rattle.engine.specs.declared.answer.ByteAnswer.{ByteAnswer}
@@ -19,45 +21,78 @@ use Rattle.engine.specs.declared.answer.StatusAnswer.the-variants as sta
 use Rattle.engine.specs.declared.answer.TallyAnswer.{TallyAnswer}
 use Rattle.engine.specs.declared.answer.TallyAnswer.the-variants as tally
 
--- the number of a query, or 0
-unfoldable pub queryRefusal : Cgb → ℕ
-queryRefusal s = firstOf ((unreached s ⇒ 7) ∷ [])
+-- the number of a call that is declined by 7 alone, or 0
+unfoldable pub stateRefusal : Cgb → ℕ
+stateRefusal s = firstOf ((unreached s ⇒ 7) ∷ [])
 
 -- what a query says that gives these values
 unfoldable pub querySaid : Cgb → List ℕ → Said
-querySaid s values = saying (queryRefusal s) values
+querySaid s values = saying (stateRefusal s) values
 
 -- a query that asks for a flag, or for a byte
 unfoldable pub flagOf : Cgb → Bool → FlagAnswer
-flagOf s value = answered (queryRefusal s) flag.Refused (flag.Flag value)
+flagOf s value = answered (stateRefusal s) flag.Refused (flag.Flag value)
 
 unfoldable pub byteOf : Cgb → ℕ → ByteAnswer
-byteOf s value = byteAnswer (queryRefusal s) value
+byteOf s value = byteAnswer (stateRefusal s) value
 
 -- section 5: "A tally call, added here, gives the engine's source, destination, left and escape flag"
 unfoldable pub tallyOf : Cgb → TallyAnswer
 tallyOf s =
     let c = s .«vram_dma» .cursor in
-    answered (queryRefusal s) tally.Refused (tally.Tally (c .source) (c .dest) (c .remaining) (c .«escape_byte»))
+    answered (stateRefusal s) tally.Refused (tally.Tally (c .source) (c .dest) (c .remaining) (c .«escape_byte»))
 
 abbrev pub tallyValues : Cgb → List ℕ
 tallyValues s =
     let c = s .«vram_dma» .cursor in c .source ∷ c .dest ∷ c .remaining ∷ bitOf (c .«escape_byte») ∷ []
 
 unfoldable pub statusOf : Cgb → StatusAnswer
-statusOf s = answered (queryRefusal s) status.Refused (status.Status (transfer.statusOf (s .«vram_dma»)))
+statusOf s = answered (stateRefusal s) status.Refused (status.Status (transfer.statusOf (s .«vram_dma»)))
 
 abbrev pub statusValues : Cgb → List ℕ
 statusValues s = modeSays (transfer.statusOf (s .«vram_dma»))
 
--- "`VramDmaClaim` is two flags, committed and standing"
+-- section 3: "`VramDmaClaim` is two flags, committed and standing"
 unfoldable pub claimOf : Cgb → ClaimAnswer
 claimOf s =
     let c = s .«console_state» .«vram_dma_claim» in
-    answered (queryRefusal s) claim.Refused (claim.Claim (c .committed) (c .standing))
+    answered (stateRefusal s) claim.Refused (claim.Claim (c .committed) (c .standing))
 
 abbrev pub claimValues : Cgb → List ℕ
 claimValues s = let c = s .«console_state» .«vram_dma_claim» in bitOf (c .committed) ∷ bitOf (c .standing) ∷ []
+
+-- what the other queries ask (the Rust's queries of `Cgb`; lib.rs, speed_switch.rs, registers.rs)
+abbrev pub parkWaits : Cgb → Bool
+parkWaits s = s .«vram_dma» .arb .«park_waits_for_fetch»
+
+abbrev pub requestStands : Cgb → Bool
+requestStands s = transfer.requestStanding (s .«vram_dma»)
+
+abbrev pub holdsCpu : Cgb → Bool
+holdsCpu s = transfer.holdsCpu (s .«vram_dma»)
+
+abbrev pub seizesBus : Cgb → Bool
+seizesBus s = transfer.seizesBus (s .«vram_dma»)
+
+abbrev pub switchInProgress : Cgb → Bool
+switchInProgress s = blackoutActive (s .«speed_switch_blackout»)
+
+abbrev pub dividerRuns : Cgb → Bool
+dividerRuns s = dividerActive (s .«double_speed») (s .«speed_switch_blackout»)
+
+abbrev pub atDoubleSpeed : Cgb → Bool
+atDoubleSpeed s = s .«double_speed»
+
+abbrev pub cpuSteps : Cgb → ℕ
+cpuSteps s = stepsPerDot (s .«double_speed»)
+
+-- the bank at D000h up: "bank FF70 (0 means 1)" (section 3)
+abbrev pub bankSelected : Cgb → ℕ
+bankSelected s = wramBank (s .svbk)
+
+-- FF70 as written
+abbrev pub svbkWritten : Cgb → ℕ
+svbkWritten s = s .svbk
 
 -- the promises of a query: its answer, and what that says
 abbrev pub AnswersFlag : Cgb → Bool → FlagAnswer → Type 0

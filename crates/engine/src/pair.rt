@@ -47,10 +47,10 @@ pub fn vram_dma_drain_escape(state: Cgb) -> Handed
             state: state,
         };
     }
-    let next = transfer::pair::drain_escape(state.vram_dma);
-    let found = next.answer;
+    let drained = transfer::pair::drain_escape(state.vram_dma);
+    let found = drained.answer;
     let answer = handed(found);
-    let dma = next.dma;
+    let dma = drained.dma;
     let mut after = state;
     after.vram_dma = dma;
     Handed {

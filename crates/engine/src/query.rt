@@ -1,9 +1,6 @@
 // What is asked of the state and changes nothing (lib.rs, the queries of `Cgb` and `Model`; the
 // tally is document 01's own). Each tests 7.
-ghost use Rattle.engine.specs.Query.{AnswersTally, AnswersStatus, AnswersClaim, AnswersFlag, AnswersByte};
-ghost use Rattle.transfer.specs.Questions.{requestStanding, holdsCpu, seizesBus};
-ghost use Rattle.speed_switch.specs.Speed.{stepsPerDot, blackoutActive, dividerActive};
-ghost use Rattle.registers.specs.Map.{wramBank};
+ghost use Rattle.engine.specs.Query.{AnswersTally, AnswersStatus, AnswersClaim, AnswersFlag, AnswersByte, parkWaits, requestStands, holdsCpu, seizesBus, switchInProgress, dividerRuns, atDoubleSpeed, cpuSteps, bankSelected, svbkWritten};
 use crate::answer::ByteAnswer;
 use crate::answer::ClaimAnswer;
 use crate::answer::FlagAnswer;
@@ -53,7 +50,7 @@ pub fn vram_dma_claim(state: Cgb) -> ClaimAnswer
 
 // The block waits for the instruction in flight to retire.
 pub fn vram_dma_park_waits_for_fetch(state: Cgb) -> FlagAnswer
-    ensures { λ r. ⌜ AnswersFlag state (state .«vram_dma» .arb .«park_waits_for_fetch») r ⌝ }
+    ensures { λ r. ⌜ AnswersFlag state (parkWaits state) r ⌝ }
 {
     if state.unreached() {
         return FlagAnswer::Refused(refusal::STATE);
@@ -62,7 +59,7 @@ pub fn vram_dma_park_waits_for_fetch(state: Cgb) -> FlagAnswer
 }
 
 pub fn vram_dma_request_standing(state: Cgb) -> FlagAnswer
-    ensures { λ r. ⌜ AnswersFlag state (requestStanding (state .«vram_dma»)) r ⌝ }
+    ensures { λ r. ⌜ AnswersFlag state (requestStands state) r ⌝ }
 {
     if state.unreached() {
         return FlagAnswer::Refused(refusal::STATE);
@@ -72,7 +69,7 @@ pub fn vram_dma_request_standing(state: Cgb) -> FlagAnswer
 }
 
 pub fn vram_dma_holds_cpu(state: Cgb) -> FlagAnswer
-    ensures { λ r. ⌜ AnswersFlag state (holdsCpu (state .«vram_dma»)) r ⌝ }
+    ensures { λ r. ⌜ AnswersFlag state (holdsCpu state) r ⌝ }
 {
     if state.unreached() {
         return FlagAnswer::Refused(refusal::STATE);
@@ -82,7 +79,7 @@ pub fn vram_dma_holds_cpu(state: Cgb) -> FlagAnswer
 }
 
 pub fn vram_dma_seizes_bus(state: Cgb) -> FlagAnswer
-    ensures { λ r. ⌜ AnswersFlag state (seizesBus (state .«vram_dma»)) r ⌝ }
+    ensures { λ r. ⌜ AnswersFlag state (seizesBus state) r ⌝ }
 {
     if state.unreached() {
         return FlagAnswer::Refused(refusal::STATE);
@@ -93,7 +90,7 @@ pub fn vram_dma_seizes_bus(state: Cgb) -> FlagAnswer
 
 // A blackout is running.
 pub fn speed_switch_in_progress(state: Cgb) -> FlagAnswer
-    ensures { λ r. ⌜ AnswersFlag state (blackoutActive (state .«speed_switch_blackout»)) r ⌝ }
+    ensures { λ r. ⌜ AnswersFlag state (switchInProgress state) r ⌝ }
 {
     if state.unreached() {
         return FlagAnswer::Refused(refusal::STATE);
@@ -102,7 +99,7 @@ pub fn speed_switch_in_progress(state: Cgb) -> FlagAnswer
 }
 
 pub fn speed_switch_divider_active(state: Cgb) -> FlagAnswer
-    ensures { λ r. ⌜ AnswersFlag state (dividerActive (state .«double_speed») (state .«speed_switch_blackout»)) r ⌝ }
+    ensures { λ r. ⌜ AnswersFlag state (dividerRuns state) r ⌝ }
 {
     if state.unreached() {
         return FlagAnswer::Refused(refusal::STATE);
@@ -114,7 +111,7 @@ pub fn speed_switch_divider_active(state: Cgb) -> FlagAnswer
 }
 
 pub fn double_speed(state: Cgb) -> FlagAnswer
-    ensures { λ r. ⌜ AnswersFlag state (state .«double_speed») r ⌝ }
+    ensures { λ r. ⌜ AnswersFlag state (atDoubleSpeed state) r ⌝ }
 {
     if state.unreached() {
         return FlagAnswer::Refused(refusal::STATE);
@@ -123,7 +120,7 @@ pub fn double_speed(state: Cgb) -> FlagAnswer
 }
 
 pub fn cpu_steps_per_dot(state: Cgb) -> ByteAnswer
-    ensures { λ r. ⌜ AnswersByte state (stepsPerDot (state .«double_speed»)) r ⌝ }
+    ensures { λ r. ⌜ AnswersByte state (cpuSteps state) r ⌝ }
 {
     if state.unreached() {
         return ByteAnswer::Refused(refusal::STATE);
@@ -133,7 +130,7 @@ pub fn cpu_steps_per_dot(state: Cgb) -> ByteAnswer
 
 // The bank at D000 to DFFF.
 pub fn wram_bank(state: Cgb) -> ByteAnswer
-    ensures { λ r. ⌜ AnswersByte state (wramBank (state .svbk)) r ⌝ }
+    ensures { λ r. ⌜ AnswersByte state (bankSelected state) r ⌝ }
 {
     if state.unreached() {
         return ByteAnswer::Refused(refusal::STATE);
@@ -143,7 +140,7 @@ pub fn wram_bank(state: Cgb) -> ByteAnswer
 
 // SVBK as written.
 pub fn svbk_register(state: Cgb) -> ByteAnswer
-    ensures { λ r. ⌜ AnswersByte state (state .svbk) r ⌝ }
+    ensures { λ r. ⌜ AnswersByte state (svbkWritten state) r ⌝ }
 {
     if state.unreached() {
         return ByteAnswer::Refused(refusal::STATE);

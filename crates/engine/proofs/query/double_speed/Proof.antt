@@ -1,14 +1,14 @@
 -- `double_speed` meets its contract. Assumes nothing.
-use Rattle.engine.specs.Query.{flagOf, querySaid, queryRefusal}
+use Rattle.engine.specs.Query.{flagOf, querySaid, stateRefusal}
 use Rattle.engine.proofs.query.double_speed.Statement.{statement}
 use Rattle.engine.proofs.query.double_speed.Tie as tie
 
 returns : tie.Need-returns
-unfolding flagOf querySaid queryRefusal
+unfolding flagOf querySaid stateRefusal
 returns c = record { is = rw (← c .before .unreached .ensures, c .if1 .taken); says = rw (← c .before .unreached .ensures, c .if1 .taken) }
 
 returns-2 : tie.Need-returns-2
-unfolding flagOf querySaid queryRefusal
+unfolding flagOf querySaid stateRefusal
 returns-2 c = record { is = rw (← c .before .unreached .ensures, c .if1 .left); says = rw (← c .before .unreached .ensures, c .if1 .left) }
 
 pub double-speed-spec : {M : Type 1} → statement M

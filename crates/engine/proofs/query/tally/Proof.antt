@@ -1,14 +1,14 @@
 -- `tally` meets its contract. Assumes nothing.
-use Rattle.engine.specs.Query.{tallyOf, querySaid, queryRefusal}
+use Rattle.engine.specs.Query.{tallyOf, querySaid, stateRefusal}
 use Rattle.engine.proofs.query.tally.Statement.{statement}
 use Rattle.engine.proofs.query.tally.Tie as tie
 
 returns : tie.Need-returns
-unfolding tallyOf querySaid queryRefusal
+unfolding tallyOf querySaid stateRefusal
 returns c = record { is = rw (← c .before .unreached .ensures, c .if1 .taken); says = rw (← c .before .unreached .ensures, c .if1 .taken) }
 
 returns-2 : tie.Need-returns-2
-unfolding tallyOf querySaid queryRefusal
+unfolding tallyOf querySaid stateRefusal
 returns-2 c = record { is = rw (← c .before .before .unreached .ensures, c .before .if1 .left); says = rw (← c .before .before .unreached .ensures, c .before .if1 .left) }
 
 pub tally-spec : {M : Type 1} → statement M

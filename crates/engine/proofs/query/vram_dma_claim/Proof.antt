@@ -1,14 +1,14 @@
 -- `vram_dma_claim` meets its contract. Assumes nothing.
-use Rattle.engine.specs.Query.{claimOf, querySaid, queryRefusal}
+use Rattle.engine.specs.Query.{claimOf, querySaid, stateRefusal}
 use Rattle.engine.proofs.query.vram_dma_claim.Statement.{statement}
 use Rattle.engine.proofs.query.vram_dma_claim.Tie as tie
 
 returns : tie.Need-returns
-unfolding claimOf querySaid queryRefusal
+unfolding claimOf querySaid stateRefusal
 returns c = record { is = rw (← c .before .unreached .ensures, c .if1 .taken); says = rw (← c .before .unreached .ensures, c .if1 .taken) }
 
 returns-2 : tie.Need-returns-2
-unfolding claimOf querySaid queryRefusal
+unfolding claimOf querySaid stateRefusal
 returns-2 c = record { is = rw (← c .before .unreached .ensures, c .if1 .left); says = rw (← c .before .unreached .ensures, c .if1 .left) }
 
 pub vram-dma-claim-spec : {M : Type 1} → statement M

@@ -1,14 +1,14 @@
 -- `vram_dma_park_waits_for_fetch` meets its contract. Assumes nothing.
-use Rattle.engine.specs.Query.{flagOf, querySaid, queryRefusal}
+use Rattle.engine.specs.Query.{flagOf, querySaid, stateRefusal}
 use Rattle.engine.proofs.query.vram_dma_park_waits_for_fetch.Statement.{statement}
 use Rattle.engine.proofs.query.vram_dma_park_waits_for_fetch.Tie as tie
 
 returns : tie.Need-returns
-unfolding flagOf querySaid queryRefusal
+unfolding flagOf querySaid stateRefusal
 returns c = record { is = rw (← c .before .unreached .ensures, c .if1 .taken); says = rw (← c .before .unreached .ensures, c .if1 .taken) }
 
 returns-2 : tie.Need-returns-2
-unfolding flagOf querySaid queryRefusal
+unfolding flagOf querySaid stateRefusal
 returns-2 c = record { is = rw (← c .before .unreached .ensures, c .if1 .left); says = rw (← c .before .unreached .ensures, c .if1 .left) }
 
 pub vram-dma-park-waits-for-fetch-spec : {M : Type 1} → statement M

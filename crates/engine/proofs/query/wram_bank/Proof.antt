@@ -1,14 +1,14 @@
 -- `wram_bank` meets its contract. Assumes nothing.
-use Rattle.engine.specs.Query.{byteOf, querySaid, queryRefusal}
+use Rattle.engine.specs.Query.{byteOf, querySaid, stateRefusal}
 use Rattle.engine.proofs.query.wram_bank.Statement.{statement}
 use Rattle.engine.proofs.query.wram_bank.Tie as tie
 
 returns : tie.Need-returns
-unfolding byteOf querySaid queryRefusal
+unfolding byteOf querySaid stateRefusal
 returns c = record { is = rw (← c .before .unreached .ensures, c .if1 .taken); says = rw (← c .before .unreached .ensures, c .if1 .taken) }
 
 returns-2 : tie.Need-returns-2
-unfolding byteOf querySaid queryRefusal
+unfolding byteOf querySaid stateRefusal
 returns-2 c = record { is = rw (← c .before .before .unreached .ensures, c .before .if1 .left, c .wram-bank .ensures); says = rw (← c .before .before .unreached .ensures, c .before .if1 .left, c .wram-bank .ensures) }
 
 pub wram-bank-spec : {M : Type 1} → statement M
