@@ -4,8 +4,8 @@ use mathlib.Core.Bool.{Bool, true, false, and-false, false≢true}
 use Rattle.console.specs.declared.vram_dma.VramDma.{VramDma}
 use Rattle.bus.specs.Arbitration.{contends, stalls, arbitrationOf, arbitratedOf}
 use Rattle.bus.specs.Steps.{ArbitrationSteps}
-use Rattle.bus.specs.declared.Arbitration.the-variants.{Clear, Contended, Stall}
-use Rattle.bus.specs.declared.ArbitrationInput.{ArbitrationInput}
+use Rattle.bus.specs.declared.arbitration.Arbitration.the-variants.{Clear, Contended, Stall}
+use Rattle.bus.specs.declared.arbitration.ArbitrationInput.{ArbitrationInput}
 
 module _ (i : ArbitrationInput) (d : VramDma) where
   single : stalls false i d ≡ false

@@ -2,10 +2,10 @@
 use mathlib.Core.Bool.{Bool, cond, not, _&&_, _||_}
 use Rattle.console.specs.declared.vram_dma.VramDma.{VramDma}
 use Rattle.transfer.specs.Conflict.{willMove}
-use Rattle.bus.specs.declared.Arbitrated.{Arbitrated}
-use Rattle.bus.specs.declared.Arbitration.{Arbitration}
-use Rattle.bus.specs.declared.Arbitration.the-variants.{Clear, Contended, Stall}
-use Rattle.bus.specs.declared.ArbitrationInput.{ArbitrationInput}
+use Rattle.bus.specs.declared.arbitration.Arbitrated.{Arbitrated}
+use Rattle.bus.specs.declared.arbitration.Arbitration.{Arbitration}
+use Rattle.bus.specs.declared.arbitration.Arbitration.the-variants.{Clear, Contended, Stall}
+use Rattle.bus.specs.declared.arbitration.ArbitrationInput.{ArbitrationInput}
 
 -- held or suspended
 abbrev pub active : ArbitrationInput → Bool

@@ -3,8 +3,8 @@ use mathlib.Core.Path.{_≡_}
 use mathlib.Core.Bool.{Bool, true, false}
 use Rattle.console.specs.declared.vram_dma.VramDma.{VramDma}
 use Rattle.bus.specs.Arbitration.{contends, stalls, arbitratedOf}
-use Rattle.bus.specs.declared.Arbitration.the-variants.{Clear, Contended, Stall}
-use Rattle.bus.specs.declared.ArbitrationInput.{ArbitrationInput}
+use Rattle.bus.specs.declared.arbitration.Arbitration.the-variants.{Clear, Contended, Stall}
+use Rattle.bus.specs.declared.arbitration.ArbitrationInput.{ArbitrationInput}
 
 pub record ArbitrationSteps (i : ArbitrationInput) (d : VramDma) : Type 0 where
   -- contention is of single speed, a stall of double: the two exclude each other

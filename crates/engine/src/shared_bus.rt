@@ -6,8 +6,8 @@ ghost use Rattle.engine.specs.Bus.{arbitrationAnswerOf, conflictAnswerOf
 use crate::answer::Arbitrated;
 use crate::answer::ArbitrationAnswer;
 use crate::answer::ConflictAnswer;
-use bus::Arbitration;
-use bus::ArbitrationInput;
+use bus::arbitration::Arbitration;
+use bus::arbitration::ArbitrationInput;
 use console::Cgb;
 use console::refusal;
 use transfer::Conflict;
@@ -31,7 +31,7 @@ pub fn vram_dma_arbitrate_oam(state: Cgb, input: ArbitrationInput) -> Arbitrated
             state: state,
         };
     }
-    let arbitrated = bus::arbitrate_oam_bus(state.vram_dma, state.double_speed, input);
+    let arbitrated = bus::arbitration::arbitrate_oam_bus(state.vram_dma, state.double_speed, input);
     let found = arbitrated.answer;
     let answer = told(found);
     let mut after = state;

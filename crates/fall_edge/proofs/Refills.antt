@@ -22,7 +22,7 @@ bound false true = lit≤ tt
 bound false false = lit≤ tt
 
 -- General with bytes left moves, whatever block stands
-general-moves : (d : VramDma) → d .cursor .mode ≡ mode.General → 0 < d .cursor .remaining → movingOf d ≡ true
+pub general-moves : (d : VramDma) → d .cursor .mode ≡ mode.General → 0 < d .cursor .remaining → movingOf d ≡ true
 unfolding movingOf
 general-moves d general some = rw (ap isGeneral general, lt-ltb 0 (d .cursor .remaining) some, or-true)
 

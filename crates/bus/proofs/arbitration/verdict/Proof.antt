@@ -1,7 +1,7 @@
 -- `verdict` meets its contract. Assumes nothing.
 use Rattle.bus.specs.Arbitration.{arbitrationOf}
-use Rattle.bus.proofs.verdict.Statement.{statement}
-use Rattle.bus.proofs.verdict.Tie as tie
+use Rattle.bus.proofs.arbitration.verdict.Statement.{statement}
+use Rattle.bus.proofs.arbitration.verdict.Tie as tie
 
 returns : tie.Need-returns
 unfolding arbitrationOf

@@ -1,7 +1,7 @@
 -- `stalls` meets its contract. Assumes nothing.
 use Rattle.bus.specs.Arbitration.{stalls}
-use Rattle.bus.proofs.stalls.Statement.{statement}
-use Rattle.bus.proofs.stalls.Tie as tie
+use Rattle.bus.proofs.arbitration.stalls.Statement.{statement}
+use Rattle.bus.proofs.arbitration.stalls.Tie as tie
 
 returns : tie.Need-returns
 unfolding stalls

@@ -1,7 +1,7 @@
 -- `contends` meets its contract. Assumes nothing.
 use Rattle.bus.specs.Arbitration.{contends}
-use Rattle.bus.proofs.contends.Statement.{statement}
-use Rattle.bus.proofs.contends.Tie as tie
+use Rattle.bus.proofs.arbitration.contends.Statement.{statement}
+use Rattle.bus.proofs.arbitration.contends.Tie as tie
 
 returns : tie.Need-returns
 unfolding contends
