@@ -1,4 +1,3 @@
 pub mod Accepted
-pub mod Keeps
 pub mod Says
-pub mod Core
+pub mod Bused

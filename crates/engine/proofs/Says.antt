@@ -1,7 +1,7 @@
 -- What each answer says is what the part below it said. Assumes nothing.
 use mathlib.Core.Path.{_≡_, refl}
-use Rattle.bus.specs.declared.Arbitration.{Arbitration}
-use Rattle.bus.specs.declared.Arbitration.the-variants as bus
+use Rattle.bus.specs.declared.arbitration.Arbitration.{Arbitration}
+use Rattle.bus.specs.declared.arbitration.Arbitration.the-variants as bus
 use Rattle.speed_switch.specs.declared.switch.SwitchOutcome.{SwitchOutcome}
 use Rattle.speed_switch.specs.declared.switch.SwitchOutcome.the-variants as outcome
 use Rattle.transfer.specs.declared.Conflict.{Conflict}

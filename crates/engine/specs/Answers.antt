@@ -26,6 +26,8 @@ use Rattle.engine.specs.declared.answer.SwitchAnswer.{SwitchAnswer}
 use Rattle.engine.specs.declared.answer.SwitchAnswer.the-variants as switch
 use Rattle.engine.specs.declared.answer.ArbitrationAnswer.{ArbitrationAnswer}
 use Rattle.engine.specs.declared.answer.ArbitrationAnswer.the-variants as arbitration
+use Rattle.engine.specs.declared.answer.BusAnswer.{BusAnswer}
+use Rattle.engine.specs.declared.answer.BusAnswer.the-variants as moved
 use Rattle.engine.specs.declared.answer.ConflictAnswer.{ConflictAnswer}
 use Rattle.engine.specs.declared.answer.ConflictAnswer.the-variants as conflict
 use Rattle.engine.specs.declared.answer.Done.{Done}
@@ -34,6 +36,7 @@ use Rattle.engine.specs.declared.answer.Handed.{Handed}
 use Rattle.engine.specs.declared.answer.Fell.{Fell}
 use Rattle.engine.specs.declared.answer.Switched.{Switched}
 use Rattle.engine.specs.declared.answer.Arbitrated.{Arbitrated}
+use Rattle.engine.specs.declared.answer.Bussed.{Bussed}
 
 -- the number of a declined call, 0 where it is accepted, and the values that an accepted call gives
 pub record Said : Type 0 where
@@ -105,6 +108,11 @@ arbitrationSays arbitration.Contended = accepted (1 ∷ [])
 arbitrationSays arbitration.Stall = accepted (2 ∷ [])
 arbitrationSays (arbitration.Refused n) = declined n
 
+-- how many pairs moved, and whether a set-up cell was used; the pairs and bytes stand beside it
+abbrev pub busSays : BusAnswer → Said
+busSays (moved.Moved count setup) = accepted (count ∷ bitOf setup ∷ [])
+busSays (moved.Refused n) = declined n
+
 -- 0 for none; else 1 and the source
 abbrev pub conflictSays : ConflictAnswer → Said
 conflictSays (conflict.Source source) = accepted (1 ∷ source ∷ [])
@@ -130,6 +138,9 @@ switchedSays r = switchSays (r .answer)
 
 abbrev pub arbitratedSays : Arbitrated → Said
 arbitratedSays r = arbitrationSays (r .answer)
+
+abbrev pub bussedSays : Bussed → Said
+bussedSays r = busSays (r .answer)
 
 -- the state after a call: as before where it has a number
 abbrev pub kept : ℕ → Cgb → Cgb → Cgb

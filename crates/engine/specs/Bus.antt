@@ -5,15 +5,15 @@ use Rattle.console.specs.Refusals.{answered}
 use Rattle.console.specs.Set.{withVramDma, withDmaOam}
 use Rattle.console.specs.declared.Cgb.{Cgb}
 use Rattle.bus.specs.Arbitration.{arbitratedOf}
-use Rattle.bus.specs.declared.Arbitrated as part
-use Rattle.bus.specs.declared.Arbitration.{Arbitration}
-use Rattle.bus.specs.declared.Arbitration.the-variants as bus
-use Rattle.bus.specs.declared.ArbitrationInput.{ArbitrationInput}
+use Rattle.bus.specs.declared.arbitration.Arbitrated as part
+use Rattle.bus.specs.declared.arbitration.Arbitration.{Arbitration}
+use Rattle.bus.specs.declared.arbitration.Arbitration.the-variants as bus
+use Rattle.bus.specs.declared.arbitration.ArbitrationInput.{ArbitrationInput}
 use Rattle.transfer.specs.Conflict.{conflictOf}
 use Rattle.transfer.specs.declared.Conflict.{Conflict}
 use Rattle.transfer.specs.declared.Conflict.the-variants as found
 use Rattle.engine.specs.Answers.{Said, saying, kept}
-use Rattle.engine.specs.Query.{queryRefusal}
+use Rattle.engine.specs.Query.{stateRefusal}
 use Rattle.engine.specs.declared.answer.Arbitrated.{Arbitrated}
 use Rattle.engine.specs.declared.answer.ArbitrationAnswer.{ArbitrationAnswer}
 use Rattle.engine.specs.declared.answer.ArbitrationAnswer.the-variants as arbitration
@@ -36,12 +36,12 @@ arbitrated s i = arbitratedOf (s .«double_speed») i (s .«vram_dma»)
 unfoldable pub arbitrationCallOf : Cgb → ArbitrationInput → Arbitrated
 arbitrationCallOf s i =
     record {
-      answer = answered (queryRefusal s) arbitration.Refused (arbitrationAnswerOf (arbitrated s i .answer));
-      state = kept (queryRefusal s) s (withVramDma (withDmaOam (arbitrated s i .oam) (s .«vram_dma»)) s);
+      answer = answered (stateRefusal s) arbitration.Refused (arbitrationAnswerOf (arbitrated s i .answer));
+      state = kept (stateRefusal s) s (withVramDma (withDmaOam (arbitrated s i .oam) (s .«vram_dma»)) s);
     }
 
 unfoldable pub arbitrationSaid : Cgb → ArbitrationInput → Said
-arbitrationSaid s i = saying (queryRefusal s) (arbitrationValues (arbitrated s i .answer))
+arbitrationSaid s i = saying (stateRefusal s) (arbitrationValues (arbitrated s i .answer))
 
 abbrev pub conflictAnswerOf : Conflict → ConflictAnswer
 conflictAnswerOf (found.Source source) = conflict.Source source
@@ -53,7 +53,7 @@ conflictValues found.None = 0 ∷ []
 
 unfoldable pub conflictCallOf : Cgb → ℕ → ConflictAnswer
 conflictCallOf s a =
-    answered (queryRefusal s) conflict.Refused (conflictAnswerOf (conflictOf (s .«double_speed») a (s .«vram_dma»)))
+    answered (stateRefusal s) conflict.Refused (conflictAnswerOf (conflictOf (s .«double_speed») a (s .«vram_dma»)))
 
 unfoldable pub conflictSaid : Cgb → ℕ → Said
-conflictSaid s a = saying (queryRefusal s) (conflictValues (conflictOf (s .«double_speed») a (s .«vram_dma»)))
+conflictSaid s a = saying (stateRefusal s) (conflictValues (conflictOf (s .«double_speed») a (s .«vram_dma»)))

@@ -6,15 +6,15 @@ use Rattle.console.specs.declared.Cgb.{Cgb}
 use Rattle.transfer.specs.Latch.{lcdDisabledOf, retiredOf}
 use Rattle.engine.specs.Access.{doneAnswer}
 use Rattle.engine.specs.Answers.{Said, saying, kept}
-use Rattle.engine.specs.Query.{queryRefusal}
+use Rattle.engine.specs.Query.{stateRefusal}
 use Rattle.engine.specs.declared.answer.Done.{Done}
 
 -- what a call says that gives nothing
 unfoldable pub doneSaid : Cgb → Said
-doneSaid s = saying (queryRefusal s) []
+doneSaid s = saying (stateRefusal s) []
 
 abbrev pub doneOf : Cgb → Cgb → Done
-doneOf s after = record { answer = doneAnswer (queryRefusal s); state = kept (queryRefusal s) s after }
+doneOf s after = record { answer = doneAnswer (stateRefusal s); state = kept (stateRefusal s) s after }
 
 unfoldable pub lcdCallOf : Cgb → Done
 lcdCallOf s = doneOf s (withVramDma (lcdDisabledOf (s .«vram_dma»)) (withSwitchRelockDebit false s))

@@ -6,4 +6,4 @@ pub mod Fall
 pub mod Speed
 pub mod Lcd
 pub mod Bus
-pub mod Core
+pub mod BusCall

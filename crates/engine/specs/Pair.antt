@@ -9,7 +9,7 @@ use Rattle.transfer.specs.declared.pair.NextAnswer.{NextAnswer}
 use Rattle.transfer.specs.declared.pair.NextAnswer.the-variants as next
 use Rattle.transfer.specs.declared.pair.NextByte.{NextByte}
 use Rattle.engine.specs.Answers.{Said, saying, kept}
-use Rattle.engine.specs.Query.{queryRefusal}
+use Rattle.engine.specs.Query.{stateRefusal}
 use Rattle.engine.specs.declared.answer.Handed.{Handed}
 use Rattle.engine.specs.declared.answer.PairAnswer.{PairAnswer}
 use Rattle.engine.specs.declared.answer.PairAnswer.the-variants.{Pair, None, Refused}
@@ -26,18 +26,18 @@ pairValues next.None = 0 ∷ []
 abbrev pub handedOf : Cgb → NextByte → Handed
 handedOf s n =
     record {
-      answer = answered (queryRefusal s) Refused (pairAnswerOf (n .answer));
-      state = kept (queryRefusal s) s (withVramDma (n .dma) s);
+      answer = answered (stateRefusal s) Refused (pairAnswerOf (n .answer));
+      state = kept (stateRefusal s) s (withVramDma (n .dma) s);
     }
 
 unfoldable pub nextPairOf : Cgb → Handed
 nextPairOf s = handedOf s (nextByteOf (s .«vram_dma»))
 
 unfoldable pub nextPairSaid : Cgb → Said
-nextPairSaid s = saying (queryRefusal s) (pairValues (nextByteOf (s .«vram_dma») .answer))
+nextPairSaid s = saying (stateRefusal s) (pairValues (nextByteOf (s .«vram_dma») .answer))
 
 unfoldable pub escapeDrainOf : Cgb → Handed
 escapeDrainOf s = handedOf s (drainOf (s .«vram_dma»))
 
 unfoldable pub escapeDrainSaid : Cgb → Said
-escapeDrainSaid s = saying (queryRefusal s) (pairValues (drainOf (s .«vram_dma») .answer))
+escapeDrainSaid s = saying (stateRefusal s) (pairValues (drainOf (s .«vram_dma») .answer))

@@ -15,7 +15,7 @@ use Rattle.speed_switch.specs.declared.switch.SwitchInput.{SwitchInput}
 use Rattle.speed_switch.specs.declared.switch.SwitchOutcome.{SwitchOutcome}
 use Rattle.speed_switch.specs.declared.switch.SwitchOutcome.the-variants as outcome
 use Rattle.engine.specs.Answers.{Said, saying, bitOf, kept}
-use Rattle.engine.specs.Query.{queryRefusal}
+use Rattle.engine.specs.Query.{stateRefusal}
 use Rattle.engine.specs.declared.answer.FlagAnswer.the-variants as flag
 use Rattle.engine.specs.declared.answer.Flagged.{Flagged}
 use Rattle.engine.specs.declared.answer.SwitchAnswer.{SwitchAnswer}
@@ -58,16 +58,16 @@ switchSaid s i = saying (switchRefusal s i) (switchValues (switchedOf i s .outco
 -- a call that answers a flag and hands back a state
 abbrev pub flaggedOf : Cgb → part.Flagged → Flagged
 flaggedOf s r =
-    record { answer = answered (queryRefusal s) flag.Refused (flag.Flag (r .flag)); state = kept (queryRefusal s) s (r .state) }
+    record { answer = answered (stateRefusal s) flag.Refused (flag.Flag (r .flag)); state = kept (stateRefusal s) s (r .state) }
 
 unfoldable pub blackoutCallOf : Cgb → ℕ → Flagged
 blackoutCallOf s elapsed = flaggedOf s (drainedOf elapsed s)
 
 unfoldable pub blackoutSaid : Cgb → ℕ → Said
-blackoutSaid s elapsed = saying (queryRefusal s) (bitOf (drainedOf elapsed s .flag) ∷ [])
+blackoutSaid s elapsed = saying (stateRefusal s) (bitOf (drainedOf elapsed s .flag) ∷ [])
 
 unfoldable pub wakeCallOf : Cgb → Bool → Flagged
 wakeCallOf s boundary = flaggedOf s (wokenOf boundary s)
 
 unfoldable pub wakeSaid : Cgb → Bool → Said
-wakeSaid s boundary = saying (queryRefusal s) (bitOf (wokenOf boundary s .flag) ∷ [])
+wakeSaid s boundary = saying (stateRefusal s) (bitOf (wokenOf boundary s .flag) ∷ [])

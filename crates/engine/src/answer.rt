@@ -61,6 +61,13 @@ pub enum ArbitrationAnswer {
     Refused(u8),
 }
 
+// How many pairs a bus call moved, and whether a set-up cell used it up. The pairs and their bytes
+// stand in arrays beside it.
+pub enum BusAnswer {
+    Moved { count: u8, setup_cell: bool },
+    Refused(u8),
+}
+
 // The source of the byte that a read collides with.
 pub enum ConflictAnswer {
     Source(u16),
@@ -96,5 +103,13 @@ pub struct Switched {
 
 pub struct Arbitrated {
     pub answer: ArbitrationAnswer,
+    pub state: Cgb,
+}
+
+// Of the arrays the first `count` places are used, the others are 0.
+pub struct Bussed {
+    pub answer: BusAnswer,
+    pub pairs: [BytePair; 2],
+    pub bytes: [u8; 2],
     pub state: Cgb,
 }

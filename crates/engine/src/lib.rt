@@ -3,6 +3,7 @@
 // and leaves the work to one function of a lower room.
 pub mod access;
 pub mod answer;
+pub mod bus_call;
 pub mod fall;
 pub mod lcd;
 pub mod pair;

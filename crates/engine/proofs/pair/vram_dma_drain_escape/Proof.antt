@@ -2,16 +2,16 @@
 use Rattle.transfer.specs.Pair.{drainOf}
 use Rattle.engine.proofs.Says.{pair-said}
 use Rattle.engine.specs.Pair.{escapeDrainOf, escapeDrainSaid}
-use Rattle.engine.specs.Query.{queryRefusal}
+use Rattle.engine.specs.Query.{stateRefusal}
 use Rattle.engine.proofs.pair.vram_dma_drain_escape.Statement.{statement}
 use Rattle.engine.proofs.pair.vram_dma_drain_escape.Tie as tie
 
 returns : tie.Need-returns
-unfolding escapeDrainOf escapeDrainSaid queryRefusal
+unfolding escapeDrainOf escapeDrainSaid stateRefusal
 returns c = record { is = rw (← c .before .unreached .ensures, c .if1 .taken); says = rw (← c .before .unreached .ensures, c .if1 .taken) }
 
 returns-2 : tie.Need-returns-2
-unfolding escapeDrainOf escapeDrainSaid queryRefusal
+unfolding escapeDrainOf escapeDrainSaid stateRefusal
 returns-2 c = record { is = rw (← c .before .before .before .before .unreached .ensures, c .before .before .before .if1 .left, c .before .handed .ensures, c .before .before .drain-escape .ensures); says = rw (← c .before .before .before .before .unreached .ensures, c .before .before .before .if1 .left, c .before .handed .ensures, c .before .before .drain-escape .ensures) (pair-said (drainOf (c .before .before .before .before .before .args .state .«vram_dma») .answer)) }
 
 pub vram-dma-drain-escape-spec : {M : Type 1} → statement M

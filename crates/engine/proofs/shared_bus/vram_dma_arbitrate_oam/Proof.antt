@@ -2,16 +2,16 @@
 use Rattle.engine.specs.Bus.{arbitrated}
 use Rattle.engine.proofs.Says.{arbitration-said}
 use Rattle.engine.specs.Bus.{arbitrationCallOf, arbitrationSaid}
-use Rattle.engine.specs.Query.{queryRefusal}
+use Rattle.engine.specs.Query.{stateRefusal}
 use Rattle.engine.proofs.shared_bus.vram_dma_arbitrate_oam.Statement.{statement}
 use Rattle.engine.proofs.shared_bus.vram_dma_arbitrate_oam.Tie as tie
 
 returns : tie.Need-returns
-unfolding arbitrationCallOf arbitrationSaid queryRefusal
+unfolding arbitrationCallOf arbitrationSaid stateRefusal
 returns c = record { is = rw (← c .before .unreached .ensures, c .if1 .taken); says = rw (← c .before .unreached .ensures, c .if1 .taken) }
 
 returns-2 : tie.Need-returns-2
-unfolding arbitrationCallOf arbitrationSaid queryRefusal
+unfolding arbitrationCallOf arbitrationSaid stateRefusal
 returns-2 c = record { is = rw (← c .before .before .before .before .before .unreached .ensures, c .before .before .before .before .if1 .left, c .before .before .told .ensures, c .before .before .before .arbitrate-oam-bus .ensures); says = rw (← c .before .before .before .before .before .unreached .ensures, c .before .before .before .before .if1 .left, c .before .before .told .ensures, c .before .before .before .arbitrate-oam-bus .ensures) (arbitration-said (arbitrated (c .before .before .before .before .before .before .args .state) (c .before .before .before .before .before .before .args .input) .answer)) }
 
 pub vram-dma-arbitrate-oam-spec : {M : Type 1} → statement M

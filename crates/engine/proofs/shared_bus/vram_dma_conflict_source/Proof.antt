@@ -2,16 +2,16 @@
 use Rattle.transfer.specs.Conflict.{conflictOf}
 use Rattle.engine.proofs.Says.{conflict-said}
 use Rattle.engine.specs.Bus.{conflictCallOf, conflictSaid}
-use Rattle.engine.specs.Query.{queryRefusal}
+use Rattle.engine.specs.Query.{stateRefusal}
 use Rattle.engine.proofs.shared_bus.vram_dma_conflict_source.Statement.{statement}
 use Rattle.engine.proofs.shared_bus.vram_dma_conflict_source.Tie as tie
 
 returns : tie.Need-returns
-unfolding conflictCallOf conflictSaid queryRefusal
+unfolding conflictCallOf conflictSaid stateRefusal
 returns c = record { is = rw (← c .before .unreached .ensures, c .if1 .taken); says = rw (← c .before .unreached .ensures, c .if1 .taken) }
 
 returns-2 : tie.Need-returns-2
-unfolding conflictCallOf conflictSaid queryRefusal
+unfolding conflictCallOf conflictSaid stateRefusal
 returns-2 c = record { is = rw (← c .before .before .before .unreached .ensures, c .before .before .if1 .left, c .collides .ensures, c .before .write-conflict-source .ensures); says = rw (← c .before .before .before .unreached .ensures, c .before .before .if1 .left, c .collides .ensures, c .before .write-conflict-source .ensures) (conflict-said (conflictOf (c .before .before .before .before .args .state .«double_speed») (c .before .before .before .before .args .address) (c .before .before .before .before .args .state .«vram_dma»))) }
 
 pub vram-dma-conflict-source-spec : {M : Type 1} → statement M
