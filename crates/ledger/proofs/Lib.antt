@@ -1,0 +1,10 @@
+pub mod Bools
+pub mod Core
+pub mod Chosen
+pub mod Keeps
+pub mod Pays
+pub mod Writes
+pub mod Good
+pub mod Tied
+pub mod General
+pub mod Theorem

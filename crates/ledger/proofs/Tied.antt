@@ -1,0 +1,120 @@
+-- What the public functions may return is what the definitions give: each function's contract, in a line. Assumes nothing.
+use Prim.Native.Nat.{ℕ, zero, suc, _≤_}
+use native.Mathlib.Omega.{arith}
+use mathlib.Core.Path.{_≡_, refl, sym, ap, _∙_}
+use mathlib.Core.Bool.{Bool, true, false, cond, false≢true}
+use mathlib.Core.List.{List, [], _∷_}
+use lib.Dec.{eqb}
+use lib.ListN.{length}
+use borrow.Author.Tests.{eqb-true}
+use denote.Ref.{now}
+use Rattle.console.specs.Reached.{unreached}
+use Rattle.console.specs.declared.Cgb.{Cgb}
+use Rattle.console.specs.declared.vram_dma.VramDma.{VramDma}
+use Rattle.console.proofs.Reached as seven
+use Rattle.bus.specs.Commit.{Taken, nothing, after, takenOf, pairsOf, holdsBus, setupStands, withCells, busTaken, firstTwo}
+use Rattle.bus.specs.declared.commit.BusInput.{BusInput}
+use Rattle.countdown.specs.Countdown.{ticked}
+use Rattle.transfer.specs.Pair.{nextByteOf}
+use Rattle.transfer.specs.declared.pair.BytePair.{BytePair}
+use Rattle.transfer.specs.declared.pair.NextAnswer.{NextAnswer}
+use Rattle.transfer.specs.declared.pair.NextAnswer.the-variants as next
+use Rattle.bus.specs.Deposit.{noPair}
+use Rattle.engine.specs.Access.{readSaid}
+use Rattle.engine.specs.Answers.{Said, busSays, byteSays, flagSays, tallySays, statusSays, claimSays, conflictSays}
+use Rattle.engine.specs.BusCall.{Lengths, lengthsOf, wrongLengths, busRefusal, takenIn, busPairs, busAnswer, busState, busOf}
+use Rattle.engine.specs.declared.answer.BusAnswer.the-variants.{Moved, Refused}
+use Rattle.engine.specs.declared.answer.ByteAnswer.{ByteAnswer}
+use Rattle.engine.specs.declared.answer.ClaimAnswer.{ClaimAnswer}
+use Rattle.engine.specs.declared.answer.ConflictAnswer.{ConflictAnswer}
+use Rattle.engine.specs.declared.answer.FlagAnswer.{FlagAnswer}
+use Rattle.engine.specs.declared.answer.StatusAnswer.{StatusAnswer}
+use Rattle.engine.specs.declared.answer.TallyAnswer.{TallyAnswer}
+use Rattle.ledger.specs.Calls
+use Rattle.ledger.specs.Calls.{Call, Outcome, plain, ofDone, ofFlagged, ofFell, ofArbitrated, ofHanded, ofSwitched, ofBussed, first, movedIn, step}
+use Rattle.ledger.specs.Code.{Returned, by-write, by-read, by-fall, by-next-pair, by-escape-drain, by-bus-call, by-switch-speed, by-lcd-off, by-retired, by-blackout, by-wake, by-arbitrate, by-conflict, by-tally, by-status, by-claim, by-park, by-request, by-holds, by-seizes, by-in-progress, by-divider, by-double-speed, by-steps, by-bank, by-svbk}
+
+-- no more pairs than asked for
+taken-count : (n : ℕ) (d : VramDma) → length (takenOf n d .pairs) ≤ n
+unfolding takenOf
+taken-count zero d = omega arith
+taken-count (suc n) d = by (nextByteOf d .answer) (taken-count n (nextByteOf d .dma))
+  where
+    by : (a : NextAnswer) → length (takenOf n (nextByteOf d .dma) .pairs) ≤ n → length (after d a (takenOf n (nextByteOf d .dma)) .pairs) ≤ suc n
+    by (next.Pair p) h = omega arith
+    by next.None h = omega arith
+
+bus-count : (i : BusInput) (d : VramDma) → length (busTaken i d .pairs) ≤ d .cursor .quota
+unfolding busTaken pairsOf
+bus-count i d = by (holdsBus i) (setupStands d)
+  where
+    by : (held cell : Bool) → length (cond held (cond {A = Taken} cell (record { dma = withCells (ticked (d .block .«setup_cells») .next) d; pairs = []; setup = true }) (pairsOf d)) (nothing d) .pairs) ≤ d .cursor .quota
+    by true true = omega arith
+    by true false = taken-count (d .cursor .quota) d
+    by false cell = omega arith
+
+-- two places hold them all
+two-places : {A : Type 0} (none : A) (xs : List A) → length xs ≤ 2 → first (length xs) (firstTwo none xs) ≡ xs
+two-places none [] h = refl
+two-places none (a ∷ []) h = refl
+two-places none (a ∷ b ∷ []) h = refl
+two-places none (a ∷ b ∷ c ∷ more) h = absurd (omega arith)
+
+-- an accepted bus call is of a state that passes 7
+passed : (a b : Bool) → eqb (cond a 7 (cond b 2 0)) 0 ≡ true → a ≡ false
+passed true b h = absurd (false≢true h)
+passed false b h = refl
+
+module _ (s : Cgb) (i : BusInput) (n : Lengths) where
+  accepted-pairs : eqb (busRefusal s n) 0 ≡ true → length (takenIn s i .pairs) ≤ 2
+  unfolding busRefusal
+  accepted-pairs e =
+      let r = seven.reached s (passed (unreached s) (wrongLengths (n .cartridge) (n .wram) (n .vram) (n .oam)) e) in
+      omega (arith, bus-count i (s .«vram_dma»), r .quota)
+
+  bus-reply :
+      _≡_ {A = Outcome}
+      (record { reply = record { number = busSays (busAnswer s i n) .number; pairs = movedIn (busAnswer s i n) (firstTwo noPair (busPairs s i n)); cut = false }; state = busState s i n })
+      (step s (Calls.bus-call i n))
+  unfolding step busAnswer busPairs busState
+  bus-reply = by (eqb (busRefusal s n) 0) refl
+    where
+      by :
+          (b : Bool) → eqb (busRefusal s n) 0 ≡ b →
+          (let a = cond b (Moved (length (takenIn s i .pairs)) (takenIn s i .setup)) (Refused (busRefusal s n)) in
+          let ps = cond b (takenIn s i .pairs) [] in
+          _≡_ {A = Outcome}
+          (record { reply = record { number = busSays a .number; pairs = movedIn a (firstTwo noPair ps); cut = false }; state = busState s i n })
+          (record { reply = record { number = busRefusal s n; pairs = ps; cut = false }; state = busState s i n }))
+      by true e = rw (eqb-true (busRefusal s n) 0 e, two-places noPair (takenIn s i .pairs) (accepted-pairs e))
+      by false e = refl
+
+pub returned-step : {s : Cgb} {c : Call} {o : Outcome} → Returned s c o → o ≡ step s c
+unfolding step readSaid busOf
+returned-step (by-write κs wram a w byte r m) = ap ofDone (m .told .result)
+returned-step {s = s} (by-read κs wram a r m) = ap (λ (x : Said). plain x s) (m .told .says)
+returned-step (by-fall i r m) = ap ofFell (m .told .is)
+returned-step (by-next-pair r m) = ap ofHanded (m .told .is)
+returned-step (by-escape-drain r m) = ap ofHanded (m .told .is)
+returned-step {s = s} (by-bus-call κs i cartridge wram vram oam r m) =
+    ap ofBussed (m .told .result) ∙ bus-reply s i (lengthsOf (now cartridge) (now wram) (now vram) (now oam))
+returned-step (by-switch-speed i r m) = ap ofSwitched (m .told .is)
+returned-step (by-lcd-off r m) = ap ofDone (m .told .is)
+returned-step (by-retired r m) = ap ofDone (m .told .is)
+returned-step (by-blackout elapsed r m) = ap ofFlagged (m .told .is)
+returned-step (by-wake boundary r m) = ap ofFlagged (m .told .is)
+returned-step (by-arbitrate i r m) = ap ofArbitrated (m .told .is)
+returned-step {s = s} (by-conflict a r m) = ap (λ (x : ConflictAnswer). plain (conflictSays x) s) (m .told .is)
+returned-step {s = s} (by-tally r m) = ap (λ (x : TallyAnswer). plain (tallySays x) s) (m .told .is)
+returned-step {s = s} (by-status r m) = ap (λ (x : StatusAnswer). plain (statusSays x) s) (m .told .is)
+returned-step {s = s} (by-claim r m) = ap (λ (x : ClaimAnswer). plain (claimSays x) s) (m .told .is)
+returned-step {s = s} (by-park r m) = ap (λ (x : FlagAnswer). plain (flagSays x) s) (m .told .is)
+returned-step {s = s} (by-request r m) = ap (λ (x : FlagAnswer). plain (flagSays x) s) (m .told .is)
+returned-step {s = s} (by-holds r m) = ap (λ (x : FlagAnswer). plain (flagSays x) s) (m .told .is)
+returned-step {s = s} (by-seizes r m) = ap (λ (x : FlagAnswer). plain (flagSays x) s) (m .told .is)
+returned-step {s = s} (by-in-progress r m) = ap (λ (x : FlagAnswer). plain (flagSays x) s) (m .told .is)
+returned-step {s = s} (by-divider r m) = ap (λ (x : FlagAnswer). plain (flagSays x) s) (m .told .is)
+returned-step {s = s} (by-double-speed r m) = ap (λ (x : FlagAnswer). plain (flagSays x) s) (m .told .is)
+returned-step {s = s} (by-steps r m) = ap (λ (x : ByteAnswer). plain (byteSays x) s) (m .told .is)
+returned-step {s = s} (by-bank r m) = ap (λ (x : ByteAnswer). plain (byteSays x) s) (m .told .is)
+returned-step {s = s} (by-svbk r m) = ap (λ (x : ByteAnswer). plain (byteSays x) s) (m .told .is)

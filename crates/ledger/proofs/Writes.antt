@@ -1,0 +1,210 @@
+-- Writes, in the engine and in the ledger: FF51 to FF55 act alike on both, nothing else on either. Assumes nothing.
+use Prim.Native.Nat.{ℕ, _+_, _-_, _*_, _/_, _%_, _<_, _≤_}
+use native.Mathlib.Omega.{arith}
+use mathlib.Core.Path.{_≡_, refl, sym, ap, subst, _∙_}
+use mathlib.Core.Bool.{Bool, true, false, cond, _&&_, false≢true}
+use lib.Dec.{eqb}
+use borrow.Author.Tests.{eqb-true}
+use Rattle.console.specs.declared.Cgb.{Cgb}
+use Rattle.hdma.specs.Hdma5.{hdma5Written, lengthOf}
+use Rattle.hdma.proofs.Written as hdma
+use Rattle.registers.specs.Map.{Register, KEY0, KEY1, VBK, HDMA1, HDMA2, HDMA3, HDMA4, HDMA5, SVBK, FF72, FF73, FF74, FF75, Place, workRam, bankedRam, extraOam, register, unmapped, placeOf, registerOf, within, isMapped, locks, locksAt}
+use Rattle.registers.specs.Write.{stateAt, storedOf, mapWriteOf}
+use Rattle.registers.specs.declared.MapWritten.{MapWritten}
+use Rattle.registers.specs.declared.WriteInput.{WriteInput}
+use Rattle.ledger.specs.Ledger.{Ledger, Followed, source-high, source-low, dest-high, dest-low, length, elsewhere, followed, highByte, lowByte, noted}
+use Rattle.ledger.specs.Demand3.{Balanced}
+use Rattle.ledger.proofs.Core.{Core, under, coreOf, quota}
+use Rattle.ledger.proofs.Pays.{Match}
+
+-- which of the ledger's registers a place of the engine's map is
+abbrev follows : Place → Followed
+follows (workRam i) = elsewhere
+follows (bankedRam i) = elsewhere
+follows (extraOam i) = elsewhere
+follows unmapped = elsewhere
+follows (register KEY0) = elsewhere
+follows (register KEY1) = elsewhere
+follows (register VBK) = elsewhere
+follows (register HDMA1) = source-high
+follows (register HDMA2) = source-low
+follows (register HDMA3) = dest-high
+follows (register HDMA4) = dest-low
+follows (register HDMA5) = length
+follows (register SVBK) = elsewhere
+follows (register FF72) = elsewhere
+follows (register FF73) = elsewhere
+follows (register FF74) = elsewhere
+follows (register FF75) = elsewhere
+
+both-ways : (b : Bool) (x y : Place) → follows x ≡ elsewhere → follows y ≡ elsewhere → follows (cond b x y) ≡ elsewhere
+both-ways true x y p q = p
+both-ways false x y p q = q
+
+passes-by : (b : Bool) (x y : Place) → b ≡ false → follows y ≡ elsewhere → follows (cond b x y) ≡ elsewhere
+passes-by true x y e q = absurd (false≢true (sym e))
+passes-by false x y e q = q
+
+-- the two maps name the same registers
+pub same-map : (a : ℕ) → follows (placeOf a) ≡ followed a
+unfolding placeOf followed
+same-map a = by (eqb a 0xFF51) (eqb a 0xFF52) (eqb a 0xFF53) (eqb a 0xFF54) (eqb a 0xFF55) refl refl refl refl refl
+  where
+    at : (n : ℕ) → a ≡ n → follows (placeOf n) ≡ followed n → follows (placeOf a) ≡ followed a
+    at n e h = subst (λ (x : ℕ). follows (placeOf x) ≡ followed x) (sym e) h
+
+    by :
+        (b1 b2 b3 b4 b5 : Bool) → eqb a 0xFF51 ≡ b1 → eqb a 0xFF52 ≡ b2 → eqb a 0xFF53 ≡ b3 → eqb a 0xFF54 ≡ b4 → eqb a 0xFF55 ≡ b5 →
+        follows (placeOf a) ≡ followed a
+    by true b2 b3 b4 b5 e1 e2 e3 e4 e5 = at 0xFF51 (eqb-true a 0xFF51 e1) refl
+    by false true b3 b4 b5 e1 e2 e3 e4 e5 = at 0xFF52 (eqb-true a 0xFF52 e2) refl
+    by false false true b4 b5 e1 e2 e3 e4 e5 = at 0xFF53 (eqb-true a 0xFF53 e3) refl
+    by false false false true b5 e1 e2 e3 e4 e5 = at 0xFF54 (eqb-true a 0xFF54 e4) refl
+    by false false false false true e1 e2 e3 e4 e5 = at 0xFF55 (eqb-true a 0xFF55 e5) refl
+    by false false false false false e1 e2 e3 e4 e5 =
+        both-ways (within 0xC000 0xCFFF a) _ _ refl
+        (both-ways (within 0xD000 0xDFFF a) _ _ refl
+        (both-ways (within 0xE000 0xEFFF a) _ _ refl
+        (both-ways (within 0xF000 0xFDFF a) _ _ refl
+        (both-ways (within 0xFEA0 0xFEFF a) _ _ refl
+        (both-ways (eqb a 0xFF4C) _ _ refl
+        (both-ways (eqb a 0xFF4D) _ _ refl
+        (both-ways (eqb a 0xFF4F) _ _ refl
+        (passes-by (eqb a 0xFF51) _ _ e1
+        (passes-by (eqb a 0xFF52) _ _ e2
+        (passes-by (eqb a 0xFF53) _ _ e3
+        (passes-by (eqb a 0xFF54) _ _ e4
+        (passes-by (eqb a 0xFF55) _ _ e5
+        (both-ways (eqb a 0xFF70) _ _ refl
+        (both-ways (eqb a 0xFF72) _ _ refl
+        (both-ways (eqb a 0xFF73) _ _ refl
+        (both-ways (eqb a 0xFF74) _ _ refl (both-ways (eqb a 0xFF75) _ _ refl refl)))))))))))))))))
+        ∙ rw (e1, e2, e3, e4, e5)
+
+module _ (s : Cgb) (w : WriteInput) where
+  -- no place but FF51 to FF55 touches the core
+  core-kept : (p : Place) → follows p ≡ elsewhere → coreOf (stateAt s w p) ≡ coreOf s
+  core-kept (workRam i) h = refl
+  core-kept (bankedRam i) h = refl
+  core-kept (extraOam i) h = refl
+  core-kept unmapped h = refl
+  core-kept (register KEY0) h = refl
+  core-kept (register KEY1) h = refl
+  core-kept (register VBK) h = refl
+  core-kept (register HDMA1) h = cc
+  core-kept (register HDMA2) h = cc
+  core-kept (register HDMA3) h = cc
+  core-kept (register HDMA4) h = cc
+  core-kept (register HDMA5) h = cc
+  core-kept (register SVBK) h = refl
+  core-kept (register FF72) h = refl
+  core-kept (register FF73) h = refl
+  core-kept (register FF74) h = refl
+  core-kept (register FF75) h = refl
+
+  quota-kept : (p : Place) → quota (stateAt s w p) ≡ quota s
+  quota-kept (workRam i) = refl
+  quota-kept (bankedRam i) = refl
+  quota-kept (extraOam i) = refl
+  quota-kept unmapped = refl
+  quota-kept (register KEY0) = refl
+  quota-kept (register KEY1) = refl
+  quota-kept (register VBK) = refl
+  quota-kept (register HDMA1) = refl
+  quota-kept (register HDMA2) = refl
+  quota-kept (register HDMA3) = refl
+  quota-kept (register HDMA4) = refl
+  quota-kept (register HDMA5) = hdma.keeps (w .value) (w .«lcd_on») (s .«vram_dma») .quota
+  quota-kept (register SVBK) = refl
+  quota-kept (register FF72) = refl
+  quota-kept (register FF73) = refl
+  quota-kept (register FF74) = refl
+  quota-kept (register FF75) = refl
+
+-- the two ways of writing a byte of a pointer, and of a length
+same-high : (v p : ℕ) → v * 256 + p % 256 ≡ highByte v p
+same-high v p = omega arith
+
+same-low : (v p : ℕ) → p / 256 * 256 + v / 16 * 16 ≡ lowByte v p
+same-low v p = omega arith
+
+same-length : (v : ℕ) → lengthOf v ≡ 16 * (v % 128 + 1)
+same-length v = omega arith
+
+high-bound : (v p : ℕ) → v < 256 → highByte v p < 65536
+high-bound v p h = omega arith
+
+low-bound : (v p : ℕ) → v < 256 → p < 65536 → lowByte v p < 65536
+low-bound v p h k = omega arith
+
+module _ (compat : Bool) (s : Cgb) (w : WriteInput) (byte : w .value < 256) (l : Ledger) (m : Match compat (coreOf s) l) where
+  kept-match : (t : Cgb) → coreOf t ≡ coreOf s → Match compat (coreOf t) l
+  kept-match t e = subst (λ (k : Core). Match compat k l) (sym e) m
+
+  written-match : (p : Place) → Match compat (coreOf (stateAt s w p)) (noted (follows p) (w .value) l)
+  unfolding Balanced
+  written-match (workRam i) = m
+  written-match (bankedRam i) = m
+  written-match (extraOam i) = kept-match (stateAt s w (extraOam i)) refl
+  written-match unmapped = m
+  written-match (register KEY0) = m
+  written-match (register KEY1) = kept-match (stateAt s w (register KEY1)) refl
+  written-match (register VBK) = kept-match (stateAt s w (register VBK)) refl
+  written-match (register HDMA1) =
+      record { locked = m .locked; source = ap (λ (p : ℕ). w .value * 256 + p % 256) (m .source) ∙ same-high (w .value) (l .source); dest = m .dest; left = m .left; free = m .free; bound = m .bound; balance = m .balance }
+  written-match (register HDMA2) =
+      record { locked = m .locked; source = ap (λ (p : ℕ). p / 256 * 256 + w .value / 16 * 16) (m .source) ∙ same-low (w .value) (l .source); dest = m .dest; left = m .left; free = m .free; bound = m .bound; balance = m .balance }
+  written-match (register HDMA3) =
+      record { locked = m .locked; source = m .source; dest = ap (λ (p : ℕ). w .value * 256 + p % 256) (m .dest) ∙ same-high (w .value) (l .dest); left = m .left; free = m .free; bound = high-bound (w .value) (l .dest) byte; balance = m .balance }
+  written-match (register HDMA4) =
+      record { locked = m .locked; source = m .source; dest = ap (λ (p : ℕ). p / 256 * 256 + w .value / 16 * 16) (m .dest) ∙ same-low (w .value) (l .dest); left = m .left; free = m .free; bound = low-bound (w .value) (l .dest) byte (m .bound); balance = m .balance }
+  written-match (register HDMA5) =
+      let k = hdma.keeps (w .value) (w .«lcd_on») (s .«vram_dma») in
+      record { locked = m .locked; source = k .source ∙ m .source; dest = k .dest ∙ m .dest; left = k .left ∙ same-length (w .value); free = k .escape ∙ m .free; bound = m .bound; balance = omega (arith, m .balance) }
+  written-match (register SVBK) = kept-match (stateAt s w (register SVBK)) refl
+  written-match (register FF72) = kept-match (stateAt s w (register FF72)) refl
+  written-match (register FF73) = kept-match (stateAt s w (register FF73)) refl
+  written-match (register FF74) = kept-match (stateAt s w (register FF74)) refl
+  written-match (register FF75) = kept-match (stateAt s w (register FF75)) refl
+
+  -- a locked register is one of the ledger's, or keeps the core anyway
+  unlocked-elsewhere : (p : Place) → locks p ≡ false → follows p ≡ elsewhere
+  unlocked-elsewhere (workRam i) h = refl
+  unlocked-elsewhere (bankedRam i) h = refl
+  unlocked-elsewhere (extraOam i) h = refl
+  unlocked-elsewhere unmapped h = refl
+  unlocked-elsewhere (register KEY0) h = refl
+  unlocked-elsewhere (register KEY1) h = refl
+  unlocked-elsewhere (register VBK) h = refl
+  unlocked-elsewhere (register HDMA1) h = absurd (false≢true (sym h))
+  unlocked-elsewhere (register HDMA2) h = absurd (false≢true (sym h))
+  unlocked-elsewhere (register HDMA3) h = absurd (false≢true (sym h))
+  unlocked-elsewhere (register HDMA4) h = absurd (false≢true (sym h))
+  unlocked-elsewhere (register HDMA5) h = absurd (false≢true (sym h))
+  unlocked-elsewhere (register SVBK) h = refl
+  unlocked-elsewhere (register FF72) h = refl
+  unlocked-elsewhere (register FF73) h = refl
+  unlocked-elsewhere (register FF74) h = refl
+  unlocked-elsewhere (register FF75) h = refl
+
+  -- "Accepted, unlocked FF51–FF55 writes act as in section 1"; locked ones, and all others, on neither
+  pub write-match : (a : ℕ) → Match compat (coreOf (mapWriteOf s w a .state)) (cond compat l (noted (followed a) (w .value) l))
+  unfolding mapWriteOf storedOf locksAt
+  write-match a = by (s .«dmg_compat») compat (locks (placeOf a)) refl (m .locked) refl
+    where
+      by :
+          (d c k : Bool) → s .«dmg_compat» ≡ d → d ≡ c → locks (placeOf a) ≡ k →
+          Match compat (coreOf (cond {A = MapWritten} (d && k) (record { mapped = isMapped (placeOf a); state = s }) (storedOf s w a) .state)) (cond c l (noted (followed a) (w .value) l))
+      by true true true e f g = m
+      by true true false e f g = kept-match (stateAt s w (placeOf a)) (core-kept s w (placeOf a) (unlocked-elsewhere (placeOf a) g))
+      by true false k e f g = absurd (false≢true (sym f))
+      by false true k e f g = absurd (false≢true f)
+      by false false k e f g = rw (← same-map a) (written-match (placeOf a))
+
+  pub write-quota : (a : ℕ) → quota (mapWriteOf s w a .state) ≡ quota s
+  unfolding mapWriteOf storedOf
+  write-quota a = by (s .«dmg_compat» && locksAt a)
+    where
+      by : (b : Bool) → quota (cond {A = MapWritten} b (record { mapped = isMapped (placeOf a); state = s }) (storedOf s w a) .state) ≡ quota s
+      by true = refl
+      by false = quota-kept s w (placeOf a)

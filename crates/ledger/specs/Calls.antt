@@ -1,0 +1,158 @@
+-- The calls of H (document 01, section 5: "all those of this document that take the engine's state"), and what each does: a
+-- line for each public function, by the definition that its contract cites. A lent slice is here by its length alone: no
+-- answer but a byte, and no state, can depend on what it holds.
+use Prim.Native.Nat.{ℕ, zero, suc, _<_}
+use mathlib.Core.Bool.{Bool, true, false}
+use mathlib.Core.List.{List, [], _∷_}
+use Rattle.console.specs.declared.Cgb.{Cgb}
+use Rattle.bus.specs.declared.arbitration.ArbitrationInput.{ArbitrationInput}
+use Rattle.bus.specs.declared.commit.BusInput.{BusInput}
+use Rattle.fall_edge.specs.declared.FallInput.{FallInput}
+use Rattle.registers.specs.declared.WriteInput.{WriteInput}
+use Rattle.speed_switch.specs.declared.switch.SwitchInput.{SwitchInput}
+use Rattle.transfer.specs.declared.pair.BytePair.{BytePair}
+use Rattle.engine.specs.Access.{accessRefusal, writeOf}
+use Rattle.engine.specs.Answers.{Said, doneStateSays, flaggedSays, handedSays, fellSays, switchedSays, arbitratedSays, bussedSays, byteSays, flagSays, tallySays, statusSays, claimSays, conflictSays}
+use Rattle.engine.specs.Bus.{arbitrationCallOf, conflictCallOf}
+use Rattle.engine.specs.BusCall.{Lengths, busRefusal, busPairs, busState}
+use Rattle.engine.specs.Fall.{fallCallOf}
+use Rattle.engine.specs.Lcd.{lcdCallOf, retiredCallOf}
+use Rattle.engine.specs.Pair.{nextPairOf, escapeDrainOf}
+use Rattle.engine.specs.Query.{flagOf, byteOf, tallyOf, statusOf, claimOf, parkWaits, requestStands, holdsCpu, seizesBus, switchInProgress, dividerRuns, atDoubleSpeed, cpuSteps, bankSelected, svbkWritten}
+use Rattle.engine.specs.Speed.{switchCallOf, blackoutCallOf, wakeCallOf}
+use Rattle.engine.specs.declared.answer.Arbitrated.{Arbitrated}
+use Rattle.engine.specs.declared.answer.BusAnswer.{BusAnswer}
+use Rattle.engine.specs.declared.answer.BusAnswer.the-variants as bus
+use Rattle.engine.specs.declared.answer.Bussed.{Bussed}
+use Rattle.engine.specs.declared.answer.Done.{Done}
+use Rattle.engine.specs.declared.answer.Fell.{Fell}
+use Rattle.engine.specs.declared.answer.Flagged.{Flagged}
+use Rattle.engine.specs.declared.answer.Handed.{Handed}
+use Rattle.engine.specs.declared.answer.PairAnswer.{PairAnswer}
+use Rattle.engine.specs.declared.answer.PairAnswer.the-variants as pair
+use Rattle.engine.specs.declared.answer.SwitchAnswer.{SwitchAnswer}
+use Rattle.engine.specs.declared.answer.SwitchAnswer.the-variants as switch
+use Rattle.engine.specs.declared.answer.Switched.{Switched}
+use Rattle.ledger.specs.Seen.{Seen, a-write, a-fall, a-switch, a-drain, another, Reply}
+
+-- what is asked of the state and changes nothing
+pub data Query : Type 0 where
+  tally status claim park request holds seizes in-progress divider double-speed steps bank svbk : Query
+
+-- the inputs of each call; a value written is a byte
+pub data Call : Type 0 where
+  write : (address : ℕ) (input : WriteInput) (wram : ℕ) → input .value < 256 → Call
+  read : (address wram : ℕ) → Call
+  fall : (input : FallInput) → Call
+  next-pair escape-drain : Call
+  bus-call : (input : BusInput) (lengths : Lengths) → Call
+  switch-speed : (input : SwitchInput) → Call
+  lcd-off retired : Call
+  blackout : (elapsed : ℕ) → Call
+  wake : (boundary : Bool) → Call
+  arbitrate : (input : ArbitrationInput) → Call
+  conflict : (address : ℕ) → Call
+  query : Query → Call
+
+-- a call's answer, as demand 3 reads it, and the state that it leaves
+pub record Outcome : Type 0 where
+  pub reply : Reply
+  pub state : Cgb
+
+-- how each function's result reads as an outcome: its number, no pairs
+abbrev pub plain : Said → Cgb → Outcome
+plain said s = record { reply = record { number = said .number; pairs = []; cut = false }; state = s }
+
+abbrev pub ofDone : Done → Outcome
+ofDone r = plain (doneStateSays r) (r .state)
+
+abbrev pub ofFlagged : Flagged → Outcome
+ofFlagged r = plain (flaggedSays r) (r .state)
+
+abbrev pub ofFell : Fell → Outcome
+ofFell r = plain (fellSays r) (r .state)
+
+abbrev pub ofArbitrated : Arbitrated → Outcome
+ofArbitrated r = plain (arbitratedSays r) (r .state)
+
+-- or its pair
+abbrev pub pairsIn : PairAnswer → List BytePair
+pairsIn (pair.Pair p) = p ∷ []
+pairsIn pair.None = []
+pairsIn (pair.Refused n) = []
+
+abbrev pub ofHanded : Handed → Outcome
+ofHanded r = record { reply = record { number = handedSays r .number; pairs = pairsIn (r .answer); cut = false }; state = r .state }
+
+-- or whether it cut
+abbrev pub isCut : SwitchAnswer → Bool
+isCut switch.None = false
+isCut switch.Discarded = false
+isCut switch.Cut = true
+isCut (switch.Refused n) = false
+
+abbrev pub ofSwitched : Switched → Outcome
+ofSwitched r = record { reply = record { number = switchedSays r .number; pairs = []; cut = isCut (r .answer) }; state = r .state }
+
+-- or the pairs of a bus call: the first of its array, as many as it counts
+abbrev pub first : {A : Type 0} → ℕ → List A → List A
+first zero xs = []
+first (suc n) [] = []
+first (suc n) (x ∷ xs) = x ∷ first n xs
+
+abbrev pub movedIn : BusAnswer → List BytePair → List BytePair
+movedIn (bus.Moved count setup) ps = first count ps
+movedIn (bus.Refused n) ps = []
+
+abbrev pub ofBussed : Bussed → Outcome
+ofBussed r = record { reply = record { number = bussedSays r .number; pairs = movedIn (r .answer) (r .pairs); cut = false }; state = r .state }
+
+-- what a query says
+abbrev pub asked : Cgb → Query → Said
+asked s tally = tallySays (tallyOf s)
+asked s status = statusSays (statusOf s)
+asked s claim = claimSays (claimOf s)
+asked s park = flagSays (flagOf s (parkWaits s))
+asked s request = flagSays (flagOf s (requestStands s))
+asked s holds = flagSays (flagOf s (holdsCpu s))
+asked s seizes = flagSays (flagOf s (seizesBus s))
+asked s in-progress = flagSays (flagOf s (switchInProgress s))
+asked s divider = flagSays (flagOf s (dividerRuns s))
+asked s double-speed = flagSays (flagOf s (atDoubleSpeed s))
+asked s steps = byteSays (byteOf s (cpuSteps s))
+asked s bank = byteSays (byteOf s (bankSelected s))
+asked s svbk = byteSays (byteOf s (svbkWritten s))
+
+-- one call, at the state s
+unfoldable pub step : Cgb → Call → Outcome
+step s (write a w n byte) = ofDone (writeOf s w a n)
+step s (read a n) = record { reply = record { number = accessRefusal s n a; pairs = []; cut = false }; state = s }
+step s (fall i) = ofFell (fallCallOf s i)
+step s next-pair = ofHanded (nextPairOf s)
+step s escape-drain = ofHanded (escapeDrainOf s)
+step s (bus-call i n) = record { reply = record { number = busRefusal s n; pairs = busPairs s i n; cut = false }; state = busState s i n }
+step s (switch-speed i) = ofSwitched (switchCallOf s i)
+step s lcd-off = ofDone (lcdCallOf s)
+step s retired = ofDone (retiredCallOf s)
+step s (blackout elapsed) = ofFlagged (blackoutCallOf s elapsed)
+step s (wake boundary) = ofFlagged (wakeCallOf s boundary)
+step s (arbitrate i) = ofArbitrated (arbitrationCallOf s i)
+step s (conflict a) = plain (conflictSays (conflictCallOf s a)) s
+step s (query q) = plain (asked s q) s
+
+-- what the ledger and demand 3 read of it
+unfoldable pub seen : Call → Seen
+seen (write a w n byte) = a-write a (w .value)
+seen (read a n) = another
+seen (fall i) = a-fall
+seen next-pair = another
+seen escape-drain = a-drain
+seen (bus-call i n) = another
+seen (switch-speed i) = a-switch
+seen lcd-off = another
+seen retired = another
+seen (blackout elapsed) = another
+seen (wake boundary) = another
+seen (arbitrate i) = another
+seen (conflict a) = another
+seen (query q) = another

@@ -1,0 +1,5 @@
+pub mod Seen
+pub mod Ledger
+pub mod Calls
+pub mod Code
+pub mod Demand3
