@@ -286,8 +286,22 @@ impl Oracle {
                 self.cgb.console_state.set_dma_cpu_hold(call.bit(0));
                 self.cgb.console_state.set_bus_suspended(call.bit(1));
                 self.chassis.dma.edge = call.edge();
+                self.chassis.commits.clear();
+                let cells = self.cgb.vram_dma.block.setup_cells.remaining();
                 self.cgb.vram_dma_commit_bytes(&mut self.chassis);
                 changes = self.changed_bus(seed);
+                // Pairs land in VRAM, a deposit in OAM's page.
+                let moved = |c: &&(u16, u16, u8)| c.1 < 0xA000;
+                let pairs: Vec<_> = self.chassis.commits.iter().filter(moved).collect();
+                assert!(pairs.len() <= 2 && self.chassis.commits.len() <= pairs.len() + 1);
+                answer[1] = pairs.len() as u8;
+                answer[2] = (self.cgb.vram_dma.block.setup_cells.remaining() < cells) as u8;
+                for (k, (source, dest, byte)) in pairs.iter().enumerate() {
+                    let at = 3 + 5 * k;
+                    answer[at..at + 2].copy_from_slice(&source.to_le_bytes());
+                    answer[at + 2..at + 4].copy_from_slice(&dest.to_le_bytes());
+                    answer[at + 4] = *byte;
+                }
             }
             kind::ARBITRATE => {
                 self.cgb.console_state.set_dma_cpu_hold(call.bit(0));

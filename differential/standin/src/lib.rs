@@ -154,6 +154,8 @@ pub struct Chassis<M: Model> {
     /// Document 01: the cartridge slice.
     pub cartridge: Vec<u8>,
     pub oam: [u8; 160],
+    /// What `dma_commit` was given, in order: source, address, byte.
+    pub commits: Vec<(u16, u16, u8)>,
 }
 
 impl<M: Model> Chassis<M>
@@ -174,6 +176,7 @@ where
             vram_bus: VramBus::default(),
             cartridge: vec![0; 40_960],
             oam: [0; 160],
+            commits: Vec::new(),
         }
     }
 }
@@ -190,7 +193,8 @@ impl<M: Model> Chassis<M> {
 
     /// "VRAM index = FF4F bank × 8192 + address − 8000h; OAM index = address − FE00h up to FE9Fh; above that
     /// nothing is stored".
-    pub fn dma_commit(&mut self, _source: u16, address: u16, byte: u8) {
+    pub fn dma_commit(&mut self, source: u16, address: u16, byte: u8) {
+        self.commits.push((source, address, byte));
         match address {
             0x8000..=0x9FFF => self.vram_bus.vram.cpu_write(VramAddress(address - 0x8000), byte),
             0xFE00..=0xFE9F => self.oam[(address - 0xFE00) as usize] = byte,
