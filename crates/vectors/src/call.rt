@@ -1,10 +1,13 @@
 // One vector: the call is performed by the public functions, and every byte of the answer and of the
 // state after is compared with the original's.
 use crate::fields;
-use crate::wram;
-use bus::ArbitrationInput;
+use crate::lent;
+use bus::arbitration::ArbitrationInput;
+use bus::commit::BusInput;
 use console::Cgb;
 use engine::answer::ArbitrationAnswer;
+use engine::answer::BusAnswer;
+use engine::answer::Bussed;
 use engine::answer::ByteAnswer;
 use engine::answer::ClaimAnswer;
 use engine::answer::ConflictAnswer;
@@ -19,6 +22,7 @@ use memory::byte_at;
 use registers::WriteInput;
 use speed_switch::switch::SwitchInput;
 use transfer::VramDmaStatus;
+use transfer::pair::BytePair;
 
 // The answer as the vector has it: the refusal or 0, a value, three numbers; and the state after.
 struct Outcome {
@@ -336,19 +340,12 @@ fn access(s: Cgb, wram: &mut [u8], record: &[u8; 576]) -> Outcome {
     }
 }
 
-// The slice is one short, one long or right.
-fn sized(s: Cgb, memory: &mut [u8], record: &[u8; 576]) -> Outcome {
-    let length = fields::four(record[20], record[21], record[22], record[23]);
-    if memory.len() < 32769 {
-        return access(s, memory, record);
-    }
-    if length == 32768 {
-        return access(s, &mut memory[0..32768], record);
-    }
-    if length == 32767 {
-        return access(s, &mut memory[0..32767], record);
-    }
-    access(s, memory, record)
+fn sized(s: Cgb, wram: &mut [u8], record: &[u8; 576]) -> Outcome {
+    let n = lent::fit(
+        fields::four(record[20], record[21], record[22], record[23]),
+        wram.len(),
+    );
+    access(s, &mut wram[0..n], record)
 }
 
 fn state_before(record: &[u8; 576]) -> [u8; 248] {
@@ -380,29 +377,156 @@ fn answer(record: &[u8; 576]) -> [u8; 8] {
     ]
 }
 
-fn outcome_agrees(record: &[u8; 576], o: Outcome) -> bool {
-    let given = o.answer;
-    let encoded = codec::encode(o.state);
-    let wanted = answer(record);
-    let after = state_after(record);
-    check::same(&wanted, &given) & check::same(&after, &encoded)
+fn more(record: &[u8; 576]) -> [u8; 8] {
+    [
+        record[288],
+        record[289],
+        record[290],
+        record[291],
+        record[292],
+        record[293],
+        record[294],
+        record[295],
+    ]
 }
 
-fn access_agrees(record: &[u8; 576], state: Cgb, memory: &mut [u8]) -> bool {
-    wram::fill(memory, record[1]);
-    let o = sized(state, memory, record);
-    let one = record[560] == 1;
-    let at = fields::two(record[561], record[562]);
-    let kept = wram::unchanged_but(memory, record[1], one, at, record[563]);
+fn state_agrees(record: &[u8; 576], state: Cgb) -> bool {
+    let encoded = codec::encode(state);
+    let after = state_after(record);
+    check::same(&after, &encoded)
+}
+
+fn answer_agrees(record: &[u8; 576], given: [u8; 8]) -> bool {
+    let wanted = answer(record);
+    check::same(&wanted, &given)
+}
+
+fn outcome_agrees(record: &[u8; 576], o: Outcome) -> bool {
+    let given = o.answer;
+    let state = o.state;
+    answer_agrees(record, given) & state_agrees(record, state)
+}
+
+fn access_agrees(record: &[u8; 576], state: Cgb, wram: &mut [u8]) -> bool {
+    lent::fill(wram, lent::WRAM, record[1]);
+    let o = sized(state, wram, record);
+    let kept = lent::as_named(wram, lent::WRAM, record);
     outcome_agrees(record, o) & kept
 }
 
-pub fn agrees(record: &[u8; 576], memory: &mut [u8]) -> bool {
+// The first pair, count and set-up cell, or the refusal.
+fn moved(a: BusAnswer, first: BytePair, byte: u8) -> [u8; 8] {
+    match a {
+        BusAnswer::Moved { count, setup_cell } => [
+            0,
+            count,
+            bit(setup_cell),
+            (first.source % 256) as u8,
+            (first.source / 256) as u8,
+            (first.dest % 256) as u8,
+            (first.dest / 256) as u8,
+            byte,
+        ],
+        BusAnswer::Refused(n) => refused(n),
+    }
+}
+
+fn second(pair: BytePair, byte: u8) -> [u8; 8] {
+    [
+        (pair.source % 256) as u8,
+        (pair.source / 256) as u8,
+        (pair.dest % 256) as u8,
+        (pair.dest / 256) as u8,
+        byte,
+        0,
+        0,
+        0,
+    ]
+}
+
+fn bussed_agrees(record: &[u8; 576], b: Bussed) -> bool {
+    let answer = b.answer;
+    let pairs = b.pairs;
+    let bytes = b.bytes;
+    let state = b.state;
+    let given = moved(answer, pairs[0], bytes[0]);
+    let rest = second(pairs[1], bytes[1]);
+    let wanted = more(record);
+    answer_agrees(record, given) & check::same(&wanted, &rest) & state_agrees(record, state)
+}
+
+fn bus_call(
+    s: Cgb,
+    record: &[u8; 576],
+    cartridge: &[u8],
+    wram: &[u8],
+    vram: &mut [u8],
+    oam: &mut [u8],
+) -> Bussed {
+    let input = BusInput {
+        hold: record[5] % 2 == 1,
+        suspended: record[5] / 2 % 2 == 1,
+        oam_start_edge: edge(record),
+    };
+    let c = lent::fit(
+        fields::four(record[16], record[17], record[18], record[19]),
+        cartridge.len(),
+    );
+    let w = lent::fit(
+        fields::four(record[20], record[21], record[22], record[23]),
+        wram.len(),
+    );
+    let v = lent::fit(
+        fields::four(record[24], record[25], record[26], record[27]),
+        vram.len(),
+    );
+    let o = lent::fit(
+        fields::four(record[28], record[29], record[30], record[31]),
+        oam.len(),
+    );
+    engine::bus_call::vram_dma_commit_bytes(
+        s,
+        input,
+        &cartridge[0..c],
+        &wram[0..w],
+        &mut vram[0..v],
+        &mut oam[0..o],
+    )
+}
+
+fn bus_agrees(
+    record: &[u8; 576],
+    state: Cgb,
+    cartridge: &mut [u8],
+    wram: &mut [u8],
+    vram: &mut [u8],
+    oam: &mut [u8],
+) -> bool {
+    lent::fill(cartridge, lent::CARTRIDGE, record[1]);
+    lent::fill(wram, lent::WRAM, record[1]);
+    lent::fill(vram, lent::VRAM, record[1]);
+    lent::fill(oam, lent::OAM, record[1]);
+    let b = bus_call(state, record, cartridge, wram, vram, oam);
+    let kept_vram = lent::as_named(vram, lent::VRAM, record);
+    let kept_oam = lent::as_named(oam, lent::OAM, record);
+    bussed_agrees(record, b) & kept_vram & kept_oam
+}
+
+pub fn agrees(
+    record: &[u8; 576],
+    cartridge: &mut [u8],
+    wram: &mut [u8],
+    vram: &mut [u8],
+    oam: &mut [u8],
+) -> bool {
     let decoded = codec::decode(state_before(record));
     let state = decoded.state;
     let kind = record[0];
+    if kind == 9 {
+        return bus_agrees(record, state, cartridge, wram, vram, oam) & decoded.valid;
+    }
     if (kind == 1) | (kind == 8) {
-        return access_agrees(record, state, memory) & decoded.valid;
+        return access_agrees(record, state, wram) & decoded.valid;
     }
     outcome_agrees(record, perform(state, record)) & decoded.valid
 }

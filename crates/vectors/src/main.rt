@@ -2,7 +2,7 @@
 // original's answer, the state after and the bytes of memory that it changed. Any difference is a line.
 mod call;
 mod fields;
-mod wram;
+mod lent;
 
 use libc::STDIN_FILENO;
 use libc::STDOUT_FILENO;
@@ -33,8 +33,15 @@ fn one_more(n: u64) -> u64 {
     if n < 0xFFFF_FFFF_FFFF_FFFF { n + 1 } else { n }
 }
 
-fn replay(t: Tally, record: &[u8; 576], memory: &mut [u8]) -> Tally {
-    let same = call::agrees(record, memory);
+fn replay(
+    t: Tally,
+    record: &[u8; 576],
+    cartridge: &mut [u8],
+    wram: &mut [u8],
+    vram: &mut [u8],
+    oam: &mut [u8],
+) -> Tally {
+    let same = call::agrees(record, cartridge, wram, vram, oam);
     if !same {
         differs(t, record[0]);
     }
@@ -50,7 +57,13 @@ fn replay(t: Tally, record: &[u8; 576], memory: &mut [u8]) -> Tally {
 }
 
 // A number of turns that no input reaches: a loop has to end.
-fn replay_all(start: Tally, memory: &mut [u8]) -> Tally {
+fn replay_all(
+    start: Tally,
+    cartridge: &mut [u8],
+    wram: &mut [u8],
+    vram: &mut [u8],
+    oam: &mut [u8],
+) -> Tally {
     let mut t = start;
     let mut turns: u64 = 1_000_000_000_000;
     let mut record = [0u8; 576];
@@ -59,19 +72,22 @@ fn replay_all(start: Tally, memory: &mut [u8]) -> Tally {
         if got < 576 {
             return t;
         }
-        t = replay(t, &record, memory);
+        t = replay(t, &record, cartridge, wram, vram, oam);
         turns -= 1;
     }
     t
 }
 
 fn main() {
-    let mut memory = [0u8; 32769];
+    let mut cartridge = [0u8; 40961];
+    let mut wram = [0u8; 32769];
+    let mut vram = [0u8; 16385];
+    let mut oam = [0u8; 161];
     let start = Tally {
         records: 0,
         differences: 0,
     };
-    let end = replay_all(start, &mut memory);
+    let end = replay_all(start, &mut cartridge, &mut wram, &mut vram, &mut oam);
     number(b"", end.records, b" records, ");
     number(b"", end.differences, b" differ\n");
 }

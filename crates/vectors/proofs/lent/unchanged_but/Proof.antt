@@ -3,8 +3,8 @@ use Prim.Native.Nat.{_≤_, _-_}
 use mathlib.Core.Path.{_≡_}
 use borrow.Author.Needs.{needs}
 use lib.ListN.{length}
-use Rattle.vectors.proofs.wram.unchanged_but.Statement.{statement}
-use Rattle.vectors.proofs.wram.unchanged_but.Tie as tie
+use Rattle.vectors.proofs.lent.unchanged_but.Statement.{statement}
+use Rattle.vectors.proofs.lent.unchanged_but.Tie as tie
 
 abbrev Inv-loop : tie.InvT-loop
 Inv-loop memory seed one index value same₀ i₀ i-end same i = (i ≤ i-end) × (i-end ≡ length memory)

@@ -3,8 +3,8 @@ use Prim.Native.Nat.{_≤_, _-_}
 use mathlib.Core.Path.{_≡_}
 use borrow.Author.Needs.{needs}
 use lib.ListN.{length}
-use Rattle.vectors.proofs.wram.fill.Statement.{statement}
-use Rattle.vectors.proofs.wram.fill.Tie as tie
+use Rattle.vectors.proofs.lent.fill.Statement.{statement}
+use Rattle.vectors.proofs.lent.fill.Tie as tie
 
 abbrev Inv-loop : tie.InvT-loop
 Inv-loop memory₀ seed i₀ i-end memory i = (i ≤ i-end) × (i-end ≡ length memory)
