@@ -8,3 +8,5 @@ pub mod Good
 pub mod Tied
 pub mod General
 pub mod Theorem
+pub mod Told
+pub mod OneRun

@@ -5,7 +5,7 @@ use mathlib.Core.Path.{_≡_, refl, sym, ap, _∙_}
 use mathlib.Core.Bool.{Bool, true, false, cond, false≢true}
 use mathlib.Core.List.{List, [], _∷_}
 use lib.Dec.{eqb}
-use lib.ListN.{length}
+use lib.ListN.{length, take}
 use borrow.Author.Tests.{eqb-true}
 use denote.Ref.{now}
 use Rattle.console.specs.Reached.{unreached}
@@ -31,7 +31,7 @@ use Rattle.engine.specs.declared.answer.FlagAnswer.{FlagAnswer}
 use Rattle.engine.specs.declared.answer.StatusAnswer.{StatusAnswer}
 use Rattle.engine.specs.declared.answer.TallyAnswer.{TallyAnswer}
 use Rattle.ledger.specs.Calls
-use Rattle.ledger.specs.Calls.{Call, Outcome, plain, ofDone, ofFlagged, ofFell, ofArbitrated, ofHanded, ofSwitched, ofBussed, first, movedIn, step}
+use Rattle.ledger.specs.Calls.{Call, Outcome, plain, ofDone, ofFlagged, ofFell, ofArbitrated, ofHanded, ofSwitched, ofBussed, movedIn, step}
 use Rattle.ledger.specs.Code.{Returned, by-write, by-read, by-fall, by-next-pair, by-escape-drain, by-bus-call, by-switch-speed, by-lcd-off, by-retired, by-blackout, by-wake, by-arbitrate, by-conflict, by-tally, by-status, by-claim, by-park, by-request, by-holds, by-seizes, by-in-progress, by-divider, by-double-speed, by-steps, by-bank, by-svbk}
 
 -- no more pairs than asked for
@@ -54,7 +54,7 @@ bus-count i d = by (holdsBus i) (setupStands d)
     by false cell = omega arith
 
 -- two places hold them all
-two-places : {A : Type 0} (none : A) (xs : List A) → length xs ≤ 2 → first (length xs) (firstTwo none xs) ≡ xs
+two-places : {A : Type 0} (none : A) (xs : List A) → length xs ≤ 2 → take (length xs) (firstTwo none xs) ≡ xs
 two-places none [] h = refl
 two-places none (a ∷ []) h = refl
 two-places none (a ∷ b ∷ []) h = refl

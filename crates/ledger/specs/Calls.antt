@@ -1,9 +1,10 @@
 -- The calls of H (document 01, section 5: "all those of this document that take the engine's state"), and what each does: a
 -- line for each public function, by the definition that its contract cites. A lent slice is here by its length alone: no
 -- answer but a byte, and no state, can depend on what it holds.
-use Prim.Native.Nat.{ℕ, zero, suc, _<_}
+use Prim.Native.Nat.{ℕ, _<_}
 use mathlib.Core.Bool.{Bool, true, false}
 use mathlib.Core.List.{List, [], _∷_}
+use lib.ListN.{take}
 use Rattle.console.specs.declared.Cgb.{Cgb}
 use Rattle.bus.specs.declared.arbitration.ArbitrationInput.{ArbitrationInput}
 use Rattle.bus.specs.declared.commit.BusInput.{BusInput}
@@ -95,13 +96,8 @@ abbrev pub ofSwitched : Switched → Outcome
 ofSwitched r = record { reply = record { number = switchedSays r .number; pairs = []; cut = isCut (r .answer) }; state = r .state }
 
 -- or the pairs of a bus call: the first of its array, as many as it counts
-abbrev pub first : {A : Type 0} → ℕ → List A → List A
-first zero xs = []
-first (suc n) [] = []
-first (suc n) (x ∷ xs) = x ∷ first n xs
-
 abbrev pub movedIn : BusAnswer → List BytePair → List BytePair
-movedIn (bus.Moved count setup) ps = first count ps
+movedIn (bus.Moved count setup) ps = take count ps
 movedIn (bus.Refused n) ps = []
 
 abbrev pub ofBussed : Bussed → Outcome

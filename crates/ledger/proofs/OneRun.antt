@@ -1,0 +1,172 @@
+-- Every call has a return, with any slices of its lengths, and the definitions leave it no choice: every list of calls has exactly
+-- one run (specs, `OneRun`). Assumes nothing.
+use Prim.Native.Nat.{ℕ}
+use mathlib.Core.Path.{_≡_, refl, sym, ap, subst, _∙_}
+use mathlib.Core.Bool.{Bool, true, false, cond}
+use mathlib.Core.List.{List, [], _∷_}
+use lib.Dec.{eqb}
+use lib.ListN.{length, replicate, length-replicate}
+use contract.Lifetimes.{Lfts}
+use denote.Ref.{RefT, now}
+use Rattle.console.specs.PowerOn.{powerOnOf}
+use Rattle.console.specs.declared.Cgb.{Cgb}
+use Rattle.bus.specs.declared.commit.BusInput.{BusInput}
+use Rattle.registers.specs.declared.WriteInput.{WriteInput}
+use Rattle.engine.specs.Access.{readOf, writeOf, writeWram}
+use Rattle.engine.specs.Bus.{arbitrationCallOf, conflictCallOf}
+use Rattle.engine.specs.BusCall.{Lengths, lengthsOf, busOf, busVram, busOam}
+use Rattle.engine.specs.Fall.{fallCallOf}
+use Rattle.engine.specs.Lcd.{lcdCallOf, retiredCallOf}
+use Rattle.engine.specs.Pair.{nextPairOf, escapeDrainOf}
+use Rattle.engine.specs.Query.{flagOf, byteOf, tallyOf, statusOf, claimOf, parkWaits, requestStands, holdsCpu, seizesBus, switchInProgress, dividerRuns, atDoubleSpeed, cpuSteps, bankSelected, svbkWritten}
+use Rattle.engine.specs.Speed.{switchCallOf, blackoutCallOf, wakeCallOf}
+use Rattle.ledger.specs.Calls
+use Rattle.ledger.specs.Calls.{Call, Outcome, step}
+use Rattle.ledger.specs.Code
+use Rattle.ledger.specs.Code.{Returned}
+use Rattle.ledger.specs.Demand3.{History, from-power-on, then, Runs, at-power-on, called, Event}
+use Rattle.ledger.specs.OneRun.{compatOf, callsOf, RunOf, OneRun}
+use Rattle.ledger.proofs.Tied.{returned-step}
+use Rattle.ledger.proofs.Told as told
+
+-- a slice of these bytes
+slice : List ℕ → RefT (List ℕ)
+slice bytes = record { ptr = (0, 0); name = 0; now = bytes }
+
+κ1 : Lfts 1
+κ1 = ([], tt)
+
+κ4 : Lfts 4
+κ4 = ([], ([], ([], ([], tt))))
+
+record Some (s : Cgb) (c : Call) : Type 0 where
+  outcome : Outcome
+  returned : Returned s c outcome
+
+-- some list has the length n
+sized : (P : ℕ → Type 0) (n : ℕ) → ((bytes : List ℕ) → P (length bytes)) → P n
+sized P n f = subst P (length-replicate {A = ℕ} n 0) (f (replicate n 0))
+
+module _ (s : Cgb) where
+  write-some : (a : ℕ) (w : WriteInput) (byte : _) (wram : List ℕ) → Some s (Calls.write a w (length wram) byte)
+  unfolding slice κ1
+  write-some a w byte wram =
+      record {
+        outcome = _;
+        returned =
+            Code.by-write κ1 (slice wram) a w byte (writeOf s w a (length wram))
+            (record {
+              exit = (s, (slice (writeWram s w a wram), (a, (w, tt))));
+              told = record { result = refl; says = told.write-told s w a (length wram); memory = refl };
+            });
+      }
+
+  read-some : (a : ℕ) (wram : List ℕ) → Some s (Calls.read a (length wram))
+  unfolding slice κ1
+  read-some a wram =
+      record {
+        outcome = _;
+        returned =
+            Code.by-read κ1 (slice wram) a (readOf s wram a)
+            (record { exit = (s, (slice wram, (a, tt))); told = record { is = refl; says = told.read-told s wram a } });
+      }
+
+  bus-some : (i : BusInput) (c w v o : List ℕ) → Some s (Calls.bus-call i (lengthsOf c w v o))
+  unfolding slice κ4
+  bus-some i c w v o =
+      record {
+        outcome = _;
+        returned =
+            Code.by-bus-call κ4 i (slice c) (slice w) (slice v) (slice o) (busOf s i c w v o)
+            (record {
+              exit = (s, (i, (slice c, (slice w, (slice (busVram s i (lengthsOf c w v o) c w v), (slice (busOam s i (lengthsOf c w v o) c w o), tt))))));
+              told = record { result = refl; says = told.bus-told s i c w v o; stored = refl; deposit = refl };
+            });
+      }
+
+  some-call : (c : Call) → Some s c
+  some-call (Calls.write a w n byte) = sized (λ k. Some s (Calls.write a w k byte)) n (write-some a w byte)
+  some-call (Calls.read a n) = sized (λ k. Some s (Calls.read a k)) n (read-some a)
+  some-call (Calls.bus-call i n) =
+      sized (λ k. Some s (Calls.bus-call i (record { cartridge = k; wram = n .wram; vram = n .vram; oam = n .oam }))) (n .cartridge) (λ c.
+      sized (λ k. Some s (Calls.bus-call i (record { cartridge = length c; wram = k; vram = n .vram; oam = n .oam }))) (n .wram) (λ w.
+      sized (λ k. Some s (Calls.bus-call i (record { cartridge = length c; wram = length w; vram = k; oam = n .oam }))) (n .vram) (λ v.
+      sized (λ k. Some s (Calls.bus-call i (record { cartridge = length c; wram = length w; vram = length v; oam = k }))) (n .oam) (λ o.
+      bus-some i c w v o))))
+  some-call (Calls.fall i) = record { outcome = _; returned = Code.by-fall i (fallCallOf s i) (record { exit = (s, (i, tt)); told = record { is = refl; says = told.fall-told s i } }) }
+  some-call Calls.next-pair = record { outcome = _; returned = Code.by-next-pair (nextPairOf s) (record { exit = (s, tt); told = record { is = refl; says = told.next-told s } }) }
+  some-call Calls.escape-drain = record { outcome = _; returned = Code.by-escape-drain (escapeDrainOf s) (record { exit = (s, tt); told = record { is = refl; says = told.drain-told s } }) }
+  some-call (Calls.switch-speed i) = record { outcome = _; returned = Code.by-switch-speed i (switchCallOf s i) (record { exit = (s, (i, tt)); told = record { is = refl; says = told.switch-told s i } }) }
+  some-call Calls.lcd-off = record { outcome = _; returned = Code.by-lcd-off (lcdCallOf s) (record { exit = (s, tt); told = record { is = refl; says = told.lcd-told s } }) }
+  some-call Calls.retired = record { outcome = _; returned = Code.by-retired (retiredCallOf s) (record { exit = (s, tt); told = record { is = refl; says = told.retired-told s } }) }
+  some-call (Calls.blackout elapsed) = record { outcome = _; returned = Code.by-blackout elapsed (blackoutCallOf s elapsed) (record { exit = (s, (elapsed, tt)); told = record { is = refl; says = told.blackout-told s elapsed } }) }
+  some-call (Calls.wake boundary) = record { outcome = _; returned = Code.by-wake boundary (wakeCallOf s boundary) (record { exit = (s, (boundary, tt)); told = record { is = refl; says = told.wake-told s boundary } }) }
+  some-call (Calls.arbitrate i) = record { outcome = _; returned = Code.by-arbitrate i (arbitrationCallOf s i) (record { exit = (s, (i, tt)); told = record { is = refl; says = told.arbitrate-told s i } }) }
+  some-call (Calls.conflict a) = record { outcome = _; returned = Code.by-conflict a (conflictCallOf s a) (record { exit = (s, (a, tt)); told = record { is = refl; says = told.conflict-told s a } }) }
+  some-call (Calls.query Calls.tally) = record { outcome = _; returned = Code.by-tally (tallyOf s) (record { exit = (s, tt); told = record { is = refl; says = told.tally-told s } }) }
+  some-call (Calls.query Calls.status) = record { outcome = _; returned = Code.by-status (statusOf s) (record { exit = (s, tt); told = record { is = refl; says = told.status-told s } }) }
+  some-call (Calls.query Calls.claim) = record { outcome = _; returned = Code.by-claim (claimOf s) (record { exit = (s, tt); told = record { is = refl; says = told.claim-told s } }) }
+  some-call (Calls.query Calls.park) = record { outcome = _; returned = Code.by-park (flagOf s (parkWaits s)) (record { exit = (s, tt); told = record { is = refl; says = told.flag-told s (parkWaits s) } }) }
+  some-call (Calls.query Calls.request) = record { outcome = _; returned = Code.by-request (flagOf s (requestStands s)) (record { exit = (s, tt); told = record { is = refl; says = told.flag-told s (requestStands s) } }) }
+  some-call (Calls.query Calls.holds) = record { outcome = _; returned = Code.by-holds (flagOf s (holdsCpu s)) (record { exit = (s, tt); told = record { is = refl; says = told.flag-told s (holdsCpu s) } }) }
+  some-call (Calls.query Calls.seizes) = record { outcome = _; returned = Code.by-seizes (flagOf s (seizesBus s)) (record { exit = (s, tt); told = record { is = refl; says = told.flag-told s (seizesBus s) } }) }
+  some-call (Calls.query Calls.in-progress) = record { outcome = _; returned = Code.by-in-progress (flagOf s (switchInProgress s)) (record { exit = (s, tt); told = record { is = refl; says = told.flag-told s (switchInProgress s) } }) }
+  some-call (Calls.query Calls.divider) = record { outcome = _; returned = Code.by-divider (flagOf s (dividerRuns s)) (record { exit = (s, tt); told = record { is = refl; says = told.flag-told s (dividerRuns s) } }) }
+  some-call (Calls.query Calls.double-speed) = record { outcome = _; returned = Code.by-double-speed (flagOf s (atDoubleSpeed s)) (record { exit = (s, tt); told = record { is = refl; says = told.flag-told s (atDoubleSpeed s) } }) }
+  some-call (Calls.query Calls.steps) = record { outcome = _; returned = Code.by-steps (byteOf s (cpuSteps s)) (record { exit = (s, tt); told = record { is = refl; says = told.byte-told s (cpuSteps s) } }) }
+  some-call (Calls.query Calls.bank) = record { outcome = _; returned = Code.by-bank (byteOf s (bankSelected s)) (record { exit = (s, tt); told = record { is = refl; says = told.byte-told s (bankSelected s) } }) }
+  some-call (Calls.query Calls.svbk) = record { outcome = _; returned = Code.by-svbk (byteOf s (svbkWritten s)) (record { exit = (s, tt); told = record { is = refl; says = told.byte-told s (svbkWritten s) } }) }
+
+some : (compat : Bool) (calls : List Call) → RunOf compat calls
+some compat [] =
+    record { history = from-power-on compat; state = powerOnOf compat; runs = at-power-on compat (powerOnOf compat) (record { exit = (compat, tt); told = refl }); flag = refl; list = refl }
+some compat (c ∷ cs) =
+    let r = some compat cs in
+    let o = some-call (r .state) c in
+    record {
+      history = then (r .history) (record { call = c; reply = o .outcome .reply });
+      state = o .outcome .state;
+      runs = called c (o .outcome) (r .runs) (o .returned);
+      flag = r .flag;
+      list = ap (λ (xs : List Call). c ∷ xs) (r .list);
+    }
+
+-- what the definitions give for a list of calls, newest first
+stateAfter : Bool → List Call → Cgb
+stateAfter compat [] = powerOnOf compat
+stateAfter compat (c ∷ cs) = step (stateAfter compat cs) c .state
+
+historyOf : Bool → List Call → History
+historyOf compat [] = from-power-on compat
+historyOf compat (c ∷ cs) = then (historyOf compat cs) (record { call = c; reply = step (stateAfter compat cs) c .reply })
+
+is-state : {h : History} {s : Cgb} → Runs h s → s ≡ stateAfter (compatOf h) (callsOf h)
+unfolding stateAfter
+is-state (at-power-on compat s g) = g .told
+is-state (called {h = h} {s = s} c o k r) = ap (λ (x : Outcome). x .state) (returned-step r) ∙ ap (λ (x : Cgb). step x c .state) (is-state k)
+
+is-history : {h : History} {s : Cgb} → Runs h s → h ≡ historyOf (compatOf h) (callsOf h)
+unfolding historyOf
+is-history (at-power-on compat s g) = refl
+is-history (called {h = h} {s = s} c o k r) =
+    ap (λ (x : Outcome). then h (record { call = c; reply = x .reply })) (returned-step r)
+    ∙ ap (λ (x : Cgb). then h (record { call = c; reply = step x c .reply })) (is-state k)
+    ∙ ap (λ (x : History). then x (record { call = c; reply = step (stateAfter (compatOf h) (callsOf h)) c .reply })) (is-history k)
+
+only-history : (compat : Bool) (calls : List Call) (a : RunOf compat calls) → a .history ≡ historyOf compat calls
+only-history compat calls a =
+    is-history (a .runs) ∙ ap (λ (f : Bool). historyOf f (callsOf (a .history))) (a .flag) ∙ ap (historyOf compat) (a .list)
+
+only-state : (compat : Bool) (calls : List Call) (a : RunOf compat calls) → a .state ≡ stateAfter compat calls
+only-state compat calls a =
+    is-state (a .runs) ∙ ap (λ (f : Bool). stateAfter f (callsOf (a .history))) (a .flag) ∙ ap (stateAfter compat) (a .list)
+
+pub one-run : OneRun
+one-run =
+    record {
+      some = some;
+      only = λ compat calls a b. (
+        only-history compat calls a ∙ sym (only-history compat calls b),
+        only-state compat calls a ∙ sym (only-state compat calls b),
+      );
+    }
