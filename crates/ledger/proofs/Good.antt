@@ -6,7 +6,7 @@ use mathlib.Core.Path.{_≡_, refl, sym, ap, subst, _∙_}
 use mathlib.Core.Bool.{Bool, true, false, cond, not, _&&_, _||_, false≢true}
 use mathlib.Core.List.{List, [], _∷_}
 use native.Mathlib.Nat.{le-refl}
-use lib.Dec.{eqb, ltb, lit≤}
+use lib.Dec.{eqb, ltb, lit<}
 use lib.ListN.{length}
 use borrow.Author.Tests.{eqb-true}
 use Rattle.countdown.specs.Countdown.{ticked}
@@ -258,7 +258,7 @@ module _ (compat : Bool) (s : Cgb) (l : Ledger) (n : ℕ) (i : Held compat s l n
   -- every call of H
   pub keeps : (c : Call) → Good compat l n (seen c) (step s c)
   unfolding seen
-  keeps (Calls.write a w k byte) = via _ _ _ _ (is.write-is s a w k byte) (λ e. write-good a w byte)
+  keeps (Calls.write a w k byte) = via _ _ _ _ (is.write-is s a w k byte) (λ e. write-good a w (lit< byte))
   keeps (Calls.read a k) = via _ _ _ _ (is.read-is s a k) (λ e. quiet-good s refl refl)
   keeps (Calls.fall x) = via _ _ _ _ (is.fall-is s x) (fall-good x)
   keeps Calls.next-pair = via _ _ _ _ (is.next-is s) (λ e. next-good)

@@ -10,3 +10,4 @@ pub mod General
 pub mod Theorem
 pub mod Told
 pub mod OneRun
+pub mod Cases

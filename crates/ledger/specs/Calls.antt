@@ -1,9 +1,10 @@
 -- The calls of H (document 01, section 5: "all those of this document that take the engine's state"), and what each does: a
 -- line for each public function, by the definition that its contract cites. A lent slice is here by its length alone: no
 -- answer but a byte, and no state, can depend on what it holds.
-use Prim.Native.Nat.{ℕ, _<_}
+use Prim.Native.Nat.{ℕ}
 use mathlib.Core.Bool.{Bool, true, false}
 use mathlib.Core.List.{List, [], _∷_}
+use lib.Dec.{T, ltb}
 use lib.ListN.{take}
 use Rattle.console.specs.declared.Cgb.{Cgb}
 use Rattle.bus.specs.declared.arbitration.ArbitrationInput.{ArbitrationInput}
@@ -42,7 +43,7 @@ pub data Query : Type 0 where
 
 -- the inputs of each call; a value written is a byte
 pub data Call : Type 0 where
-  write : (address : ℕ) (input : WriteInput) (wram : ℕ) → input .value < 256 → Call
+  write : (address : ℕ) (input : WriteInput) (wram : ℕ) → T (ltb (input .value) 256) → Call
   read : (address wram : ℕ) → Call
   fall : (input : FallInput) → Call
   next-pair escape-drain : Call

@@ -1,11 +1,12 @@
 -- Runs of the public functions: what each may return, by its own contract. A line for each `pub fn` of the crate `engine`
 -- (the test command compares the two lists), with slices of any contents.
-use Prim.Native.Nat.{ℕ, _<_}
+use Prim.Native.Nat.{ℕ}
 use mathlib.Core.Bool.{Bool}
 use mathlib.Core.List.{List}
 use contract.Lifetimes.{Lfts}
 use denote.Triple.Clauses.{AtExit}
 use denote.Ref.{RefT, now}
+use lib.Dec.{T, ltb}
 use lib.ListN.{length}
 use borrow.Fn.Kinds.{PK, RK, Out, Dens, resT, endedOf}
 use Rattle.console.specs.declared.Cgb.{Cgb}
@@ -182,7 +183,7 @@ svbk-register = record { lifetimes = 0; parameters = svbk-register-kinds.ps; res
 -- at the state s, this call may return so
 pub data Returned (s : Cgb) : Call → Outcome → Type 0 where
   by-write :
-      (κs : Lfts 1) (wram : RefT (List ℕ)) (a : ℕ) (w : WriteInput) (byte : w .value < 256) (r : Done) →
+      (κs : Lfts 1) (wram : RefT (List ℕ)) (a : ℕ) (w : WriteInput) (byte : T (ltb (w .value) 256)) (r : Done) →
       Gives write κs (s, (wram, (a, (w, tt)))) r → Returned s (Calls.write a w (length (now wram)) byte) (ofDone r)
   by-read :
       (κs : Lfts 1) (wram : RefT (List ℕ)) (a : ℕ) (r : ByteAnswer) →

@@ -4,3 +4,4 @@ pub mod Calls
 pub mod Code
 pub mod Demand3
 pub mod OneRun
+pub mod Cases

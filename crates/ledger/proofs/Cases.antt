@@ -1,0 +1,107 @@
+-- The cases (specs, `Cases`): each is computed from the definitions. Assumes nothing.
+use Prim.Native.Nat.{ℕ, zero, suc, _<_}
+use native.Mathlib.Omega.{arith}
+use mathlib.Core.Path.{_≡_, refl, ap, _∙_}
+use mathlib.Core.Bool.{Bool, true, false, _&&_, false≢true}
+use mathlib.Core.List.{List, [], _∷_}
+use lib.Dec.{eqb}
+use borrow.Author.Tests.{eqb-true}
+use Rattle.console.specs.PowerOn.{powerOnOf, dmaAtRest}
+use Rattle.console.specs.Reached.{unreached}
+use Rattle.hdma.specs.Hdma5.{hdma5Written, armedOf, cancelledOf, startedOf, statusByte}
+use Rattle.registers.specs.Map.{placeOf, locksAt}
+use Rattle.registers.specs.Write.{mapWriteOf, storedOf}
+use Rattle.bus.specs.Commit.{takenOf, pairsOf, busTaken, vramAfter}
+use Rattle.bus.specs.Deposit.{deposited}
+use Rattle.bus.specs.Source.{sourceByte}
+use Rattle.transfer.specs.Pair.{movingOf, cursorAfter, blockAfter, arbAfter, advancedOf, nextByteOf}
+use Rattle.transfer.specs.Questions.{seizesBus}
+use Rattle.transfer.specs.declared.pair.BytePair.{BytePair}
+use Rattle.fall_edge.specs.View.{viewOf}
+use Rattle.fall_edge.specs.Stages.{settledOf, observedArb, observedOf, judgedBlock, ungrantedArb, probationOf, droppedBlock, haltLatchArb, haltLatchOf, agedArb, pendedArb, grants, grantedArb, gatedOf, refilledOf, blindsArb, blindsOf, commitBlock, commitArb, commitOf, tenureArb, tenureOf, pendArb, pendOf, readyBlock, readinessOf, seizedBlock, seizureOf}
+use Rattle.fall_edge.specs.Fall as stages
+use Rattle.fall_edge.specs.Fall.{fallOf, ranOf, decidedOf, servedOf}
+use Rattle.speed_switch.specs.Switch as switch
+use Rattle.speed_switch.specs.Switch.{outcomeOf, ungranted, cutOf, discardedOf, gradedOf, upwardOf, engineAfter, blackoutOf, switchedOf}
+use Rattle.speed_switch.specs.Blackout.{drainedOf}
+use Rattle.engine.specs.Access.{accessRefusal, writeOf}
+use Rattle.engine.specs.BusCall.{wrongLengths, busRefusal, busPairs, busAnswer, busState, busVram}
+use Rattle.engine.specs.Fall.{fallRefusal, fallenState, fallCallOf}
+use Rattle.engine.specs.Query.{stateRefusal}
+use Rattle.engine.specs.Speed.{defers, switchRefusal, switchCallOf, blackoutCallOf}
+use Rattle.ledger.specs.Ledger.{empty, followed, paid, paidAll, entered}
+use Rattle.ledger.specs.Calls.{step, seen}
+use Rattle.ledger.proofs.Bools.{and-left, and-right}
+use Rattle.ledger.specs.Cases.{World, start, live, after, vramRun, run, upward, k1, K1, K2, K3, k4, K4, k5, K5, k6, K6, K7, K8, K10, Cases}
+
+-- lists of pairs are compared number by number
+abbrev same : List BytePair → List BytePair → Bool
+same [] [] = true
+same [] (q ∷ qs) = false
+same (p ∷ ps) [] = false
+same (p ∷ ps) (q ∷ qs) = eqb (p .source) (q .source) && (eqb (p .dest) (q .dest) && same ps qs)
+
+is-same : (ps qs : List BytePair) → same ps qs ≡ true → ps ≡ qs
+is-same [] [] h = refl
+is-same [] (q ∷ qs) h = absurd (false≢true h)
+is-same (p ∷ ps) [] h = absurd (false≢true h)
+is-same (p ∷ ps) (q ∷ qs) h =
+    let rest = and-right (eqb (p .source) (q .source)) (eqb (p .dest) (q .dest) && same ps qs) h in
+    let source = eqb-true (p .source) (q .source) (and-left (eqb (p .source) (q .source)) (eqb (p .dest) (q .dest) && same ps qs) h) in
+    let dest = eqb-true (p .dest) (q .dest) (and-left (eqb (p .dest) (q .dest)) (same ps qs) rest) in
+    ap (λ (x : BytePair). x ∷ ps) (λ i. record { source = source i; dest = dest i })
+    ∙ ap (λ (xs : List BytePair). q ∷ xs) (is-same ps qs (and-right (eqb (p .dest) (q .dest)) (same ps qs) rest))
+
+case1 : (mode : ℕ) → mode < 4 → K1 mode
+unfolding start live after step seen writeOf accessRefusal unreached placeOf mapWriteOf storedOf locksAt hdma5Written armedOf cancelledOf startedOf statusByte powerOnOf dmaAtRest entered paidAll followed empty fallCallOf fallRefusal fallenState fallOf viewOf ranOf decidedOf stages.startedOf servedOf observedArb observedOf judgedBlock ungrantedArb probationOf droppedBlock haltLatchArb haltLatchOf agedArb pendedArb grants grantedArb gatedOf refilledOf blindsArb blindsOf commitBlock commitArb commitOf tenureArb tenureOf pendArb pendOf readyBlock readinessOf seizedBlock seizureOf settledOf movingOf seizesBus busAnswer busRefusal wrongLengths busPairs busState busTaken pairsOf takenOf nextByteOf advancedOf cursorAfter blockAfter arbAfter paid vramRun busVram vramAfter sourceByte
+case1 zero h = record { moved = is-same _ _ refl; reads = refl; counted = (refl, refl); stored = λ cartridge wram vram. refl }
+case1 (suc zero) h = record { moved = is-same _ _ refl; reads = refl; counted = (refl, refl); stored = λ cartridge wram vram. refl }
+case1 (suc (suc zero)) h = record { moved = is-same _ _ refl; reads = refl; counted = (refl, refl); stored = λ cartridge wram vram. refl }
+case1 (suc (suc (suc zero))) h = record { moved = is-same _ _ refl; reads = refl; counted = (refl, refl); stored = λ cartridge wram vram. refl }
+case1 (suc (suc (suc (suc m)))) h = absurd (omega arith)
+
+case2 : K2
+unfolding start live after step seen writeOf accessRefusal unreached placeOf mapWriteOf storedOf locksAt hdma5Written armedOf cancelledOf startedOf statusByte powerOnOf dmaAtRest entered paidAll followed empty fallCallOf fallRefusal fallenState fallOf viewOf ranOf decidedOf stages.startedOf servedOf observedArb observedOf judgedBlock ungrantedArb probationOf droppedBlock haltLatchArb haltLatchOf agedArb pendedArb grants grantedArb gatedOf refilledOf blindsArb blindsOf commitBlock commitArb commitOf tenureArb tenureOf pendArb pendOf readyBlock readinessOf seizedBlock seizureOf settledOf movingOf seizesBus busAnswer busRefusal wrongLengths busPairs busState busTaken pairsOf takenOf nextByteOf advancedOf cursorAfter blockAfter arbAfter paid
+case2 = record { second = refl; third = refl; fourth = refl; fifth = refl; moved = is-same _ _ refl }
+
+case3 : K3
+unfolding start live after step seen writeOf accessRefusal unreached placeOf mapWriteOf storedOf locksAt hdma5Written armedOf cancelledOf startedOf statusByte powerOnOf dmaAtRest entered paidAll followed empty
+case3 = record { reads = refl }
+
+case4 : K4
+unfolding start live after step seen writeOf accessRefusal unreached placeOf mapWriteOf storedOf locksAt hdma5Written armedOf cancelledOf startedOf statusByte powerOnOf dmaAtRest entered paidAll followed empty fallCallOf fallRefusal fallenState fallOf viewOf ranOf decidedOf stages.startedOf servedOf observedArb observedOf judgedBlock ungrantedArb probationOf droppedBlock haltLatchArb haltLatchOf agedArb pendedArb grants grantedArb gatedOf refilledOf blindsArb blindsOf commitBlock commitArb commitOf tenureArb tenureOf pendArb pendOf readyBlock readinessOf seizedBlock seizureOf settledOf movingOf seizesBus busAnswer busRefusal wrongLengths busPairs busState busTaken pairsOf takenOf nextByteOf advancedOf cursorAfter blockAfter arbAfter paid
+case4 = record { moved = is-same _ _ refl; cut-off = refl; left = refl }
+
+case5 : K5
+unfolding start live after step seen writeOf accessRefusal unreached placeOf mapWriteOf storedOf locksAt hdma5Written armedOf cancelledOf startedOf statusByte powerOnOf dmaAtRest entered paidAll followed empty fallCallOf fallRefusal fallenState fallOf viewOf ranOf decidedOf stages.startedOf servedOf observedArb observedOf judgedBlock ungrantedArb probationOf droppedBlock haltLatchArb haltLatchOf agedArb pendedArb grants grantedArb gatedOf refilledOf blindsArb blindsOf commitBlock commitArb commitOf tenureArb tenureOf pendArb pendOf readyBlock readinessOf seizedBlock seizureOf settledOf movingOf seizesBus busAnswer busRefusal wrongLengths busPairs busState busTaken pairsOf takenOf nextByteOf advancedOf cursorAfter blockAfter arbAfter paid
+case5 = record { moved = is-same _ _ refl; cut-off = refl }
+
+case6 : K6
+unfolding start live after step seen writeOf accessRefusal unreached placeOf mapWriteOf storedOf locksAt hdma5Written armedOf cancelledOf startedOf statusByte powerOnOf dmaAtRest entered paidAll followed empty fallCallOf fallRefusal fallenState fallOf viewOf ranOf decidedOf stages.startedOf servedOf observedArb observedOf judgedBlock ungrantedArb probationOf droppedBlock haltLatchArb haltLatchOf agedArb pendedArb grants grantedArb gatedOf refilledOf blindsArb blindsOf commitBlock commitArb commitOf tenureArb tenureOf pendArb pendOf readyBlock readinessOf seizedBlock seizureOf settledOf movingOf seizesBus busAnswer busRefusal wrongLengths busPairs busState busTaken pairsOf takenOf nextByteOf advancedOf cursorAfter blockAfter arbAfter paid switchCallOf switchRefusal switchedOf defers switch.readyBlock outcomeOf ungranted cutOf discardedOf gradedOf upwardOf engineAfter blackoutOf blackoutCallOf drainedOf stateRefusal
+case6 = record { cut = refl; moved = is-same _ _ refl; free = refl; left = (refl, refl); reads = refl }
+
+case7 : K7
+unfolding start live after step seen writeOf accessRefusal unreached placeOf mapWriteOf storedOf locksAt hdma5Written armedOf cancelledOf startedOf statusByte powerOnOf dmaAtRest entered paidAll followed empty switchCallOf switchRefusal switchedOf defers switch.readyBlock outcomeOf ungranted cutOf discardedOf gradedOf upwardOf engineAfter blackoutOf blackoutCallOf drainedOf stateRefusal
+case7 = record { up = refl; down = refl; again = refl }
+
+case8 : (p q : BytePair) (b c : ℕ) (oam : List ℕ) → K8 p q b c oam
+unfolding deposited
+case8 p q b c oam = record { at-98 = refl; at-92 = refl; at-96 = refl; at-94 = refl; both-0 = refl }
+
+case10 : K10
+unfolding start live after step seen writeOf accessRefusal unreached placeOf mapWriteOf storedOf locksAt hdma5Written armedOf cancelledOf startedOf statusByte powerOnOf dmaAtRest entered paidAll followed empty
+case10 = record { reads = refl }
+
+pub cases : Cases
+cases =
+    record {
+      case1 = case1;
+      case2 = case2;
+      case3 = case3;
+      case4 = case4;
+      case5 = case5;
+      case6 = case6;
+      case7 = case7;
+      case8 = case8;
+      case10 = case10;
+    }

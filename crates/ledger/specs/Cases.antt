@@ -1,0 +1,220 @@
+-- The cases (document 01, "Cases"), with the ledger beside them. A bus call here is by its slices' lengths: what it hands out is
+-- the same for any contents.
+use Prim.Native.Nat.{ℕ, zero, suc, _+_, _%_, _<_}
+use mathlib.Core.Path.{_≡_}
+use mathlib.Core.Bool.{Bool, true, false}
+use mathlib.Core.List.{List, [], _∷_, _++_}
+use lib.Dec.{T, ltb}
+use lib.ListN.{set, getD}
+use Rattle.console.specs.PowerOn.{powerOnOf}
+use Rattle.console.specs.declared.Cgb.{Cgb}
+use Rattle.registers.specs.Map.{placeOf}
+use Rattle.registers.specs.Read.{byteAt}
+use Rattle.bus.specs.Deposit.{phaseOf, deposited}
+use Rattle.bus.specs.Store.{oamWith}
+use Rattle.bus.specs.declared.commit.BusInput.{BusInput}
+use Rattle.transfer.specs.declared.pair.BytePair.{BytePair}
+use Rattle.engine.specs.BusCall.{Lengths, busAnswer, busVram}
+use Rattle.engine.specs.Speed.{switchCallOf}
+use Rattle.engine.specs.declared.answer.BusAnswer.the-variants as bus
+use Rattle.engine.specs.declared.answer.SwitchAnswer.the-variants as switched
+use Rattle.speed_switch.specs.declared.switch.SwitchInput.{SwitchInput}
+use Rattle.ledger.specs.Ledger.{Ledger, empty, entered}
+use Rattle.ledger.specs.Calls.{Call, write, read, fall, next-pair, escape-drain, bus-call, switch-speed, lcd-off, retired, blackout, wake, arbitrate, conflict, query, step, seen}
+
+-- the engine, the ledger beside it, and the pairs so far
+pub record World : Type 0 where
+  pub engine : Cgb
+  pub ledger : Ledger
+  pub pairs : List BytePair
+
+unfoldable pub start : Bool → World
+start compat = record { engine = powerOnOf compat; ledger = empty; pairs = [] }
+
+unfoldable pub live : Bool → World → Call → World
+live compat w c =
+    let o = step (w .engine) c in
+    record {
+      engine = o .state;
+      ledger = entered compat (seen c) (o .reply) (w .ledger);
+      pairs = w .pairs ++ o .reply .pairs;
+    }
+
+-- a list of calls, each at what the last one left
+unfoldable pub after : Bool → World → List Call → World
+after compat w [] = w
+after compat w (c ∷ cs) = after compat (live compat w c) cs
+
+-- from power-on without compat
+abbrev pub run : List Call → World
+run calls = after false (start false) calls
+
+-- VRAM after those calls, with these contents in the slices
+abbrev pub vramAt : World → Call → List ℕ → List ℕ → List ℕ → List ℕ
+vramAt w (write a i n byte) cartridge wram vram = vram
+vramAt w (read a n) cartridge wram vram = vram
+vramAt w (fall i) cartridge wram vram = vram
+vramAt w next-pair cartridge wram vram = vram
+vramAt w escape-drain cartridge wram vram = vram
+vramAt w (bus-call i n) cartridge wram vram = busVram (w .engine) i n cartridge wram vram
+vramAt w (switch-speed i) cartridge wram vram = vram
+vramAt w lcd-off cartridge wram vram = vram
+vramAt w retired cartridge wram vram = vram
+vramAt w (blackout elapsed) cartridge wram vram = vram
+vramAt w (wake boundary) cartridge wram vram = vram
+vramAt w (arbitrate i) cartridge wram vram = vram
+vramAt w (conflict a) cartridge wram vram = vram
+vramAt w (query q) cartridge wram vram = vram
+
+unfoldable pub vramRun : World → List Call → List ℕ → List ℕ → List ℕ → List ℕ
+vramRun w [] cartridge wram vram = vram
+vramRun w (c ∷ cs) cartridge wram vram = vramRun (live false w c) cs cartridge wram (vramAt w c cartridge wram vram)
+
+-- the first n bytes of the cartridge, at the start of VRAM
+abbrev pub copied : ℕ → List ℕ → List ℕ → List ℕ
+copied zero cartridge vram = vram
+copied (suc n) cartridge vram = set (copied n cartridge vram) n (getD cartridge n 0)
+
+-- FF55, which looks at no work RAM
+abbrev pub ff55 : World → ℕ
+ff55 w = byteAt (w .engine) [] (placeOf 0xFF55)
+
+-- "LCD on"
+abbrev pub to : (address value : ℕ) → T (ltb value 256) → Call
+to address value byte = write address (record { value = value; «lcd_on» = true }) 32768 byte
+
+-- a running fall at an edge
+abbrev pub fallsAt : ℕ → ℕ → Call
+fallsAt edge mode =
+    fall (record { mode = mode; halted = false; «irq_latched» = false; stopped = false; «master_edge» = edge; «oam_owns_bus» = false })
+
+abbrev pub falls : ℕ → Call
+falls mode = fallsAt 0 mode
+
+abbrev pub held : BusInput
+held = record { hold = true; suspended = false; «oam_start_edge» = 0 }
+
+abbrev pub lengths : Lengths
+lengths = record { cartridge = 40960; wram = 32768; vram = 16384; oam = 160 }
+
+abbrev pub heldBus : Call
+heldBus = bus-call held lengths
+
+-- n rounds of fall and held bus
+abbrev pub rounds : ℕ → ℕ → List Call
+rounds zero mode = []
+rounds (suc n) mode = falls mode ∷ heldBus ∷ rounds n mode
+
+abbrev pub unheld : ℕ → SwitchInput
+unheld phase = record { hold = false; «dot_phase» = phase; «interrupt_ready» = false; «master_edge» = 0 }
+
+-- n pairs from these addresses up
+abbrev pub upward : ℕ → ℕ → ℕ → List BytePair
+upward zero source dest = []
+upward (suc n) source dest = record { source = source; dest = dest } ∷ upward n (source + 1) (dest + 1)
+
+-- "FF55=00, eight rounds of fall and held bus: 0000h→8000h to 000Fh→800Fh, then FF", in any mode of the fall
+abbrev pub k1-calls : ℕ → List Call
+k1-calls mode = to 0xFF55 0x00 tt ∷ rounds 8 mode
+
+abbrev pub k1 : ℕ → World
+k1 mode = run (k1-calls mode)
+
+pub record K1 (mode : ℕ) : Type 0 where
+  pub moved : k1 mode .pairs ≡ upward 16 0x0000 0x8000
+  pub reads : ff55 (k1 mode) ≡ 0xFF
+  pub counted : (k1 mode .ledger .pairs ≡ 16) × (k1 mode .ledger .left ≡ 0)
+  -- with any memory contents
+  pub stored : (cartridge wram vram : List ℕ) → vramRun (start false) (k1-calls mode) cartridge wram vram ≡ copied 16 cartridge vram
+
+-- "FF55=80 and falls in modes 3, 0, 0, 0, 0: FF55 is 00 after the second, FF after the third; bus after the fourth takes the
+-- set-up cell, after the fifth two pairs"
+abbrev pub two-falls : (v : ℕ) → T (ltb v 256) → List Call
+two-falls v byte = to 0xFF55 v byte ∷ falls 3 ∷ falls 0 ∷ []
+
+abbrev pub four-falls : (v : ℕ) → T (ltb v 256) → List Call
+four-falls v byte = two-falls v byte ++ (falls 0 ∷ falls 0 ∷ [])
+
+abbrev pub five-falls : (v : ℕ) → T (ltb v 256) → List Call
+five-falls v byte = four-falls v byte ++ (heldBus ∷ falls 0 ∷ [])
+
+pub record K2 : Type 0 where
+  pub second : ff55 (run (two-falls 0x80 tt)) ≡ 0x00
+  pub third : ff55 (run (two-falls 0x80 tt ++ (falls 0 ∷ []))) ≡ 0xFF
+  pub fourth : busAnswer (run (four-falls 0x80 tt) .engine) held lengths ≡ bus.Moved 0 true
+  pub fifth : busAnswer (run (five-falls 0x80 tt) .engine) held lengths ≡ bus.Moved 2 false
+  pub moved : run (five-falls 0x80 tt ++ (heldBus ∷ [])) .pairs ≡ upward 2 0x0000 0x8000
+
+-- "83 then 00 in front of any fall: 80"
+pub record K3 : Type 0 where
+  pub reads : ff55 (run (to 0xFF55 0x83 tt ∷ to 0xFF55 0x00 tt ∷ [])) ≡ 0x80
+
+-- "destination FFF0h, General 01: 16 pairs, cut off 16"
+abbrev pub k4 : World
+k4 = run (to 0xFF53 0xFF tt ∷ to 0xFF54 0xF0 tt ∷ to 0xFF55 0x01 tt ∷ rounds 16 3)
+
+pub record K4 : Type 0 where
+  pub moved : k4 .pairs ≡ upward 16 0x0000 0x9FF0
+  pub cut-off : k4 .ledger .cut-off ≡ 16
+  pub left : k4 .ledger .left ≡ 0
+
+-- "destination 9FF0h, General 01: 32 pairs, the 17th to 8000h"
+abbrev pub k5 : World
+k5 = run (to 0xFF53 0x9F tt ∷ to 0xFF54 0xF0 tt ∷ to 0xFF55 0x01 tt ∷ rounds 16 3)
+
+pub record K5 : Type 0 where
+  pub moved : k5 .pairs ≡ upward 16 0x0000 0x9FF0 ++ upward 16 0x0010 0x8000
+  pub cut-off : k5 .ledger .cut-off ≡ 0
+
+-- "as K2 with 81, then FF4D=01 and an unheld switch: cut; fall and bus: one free pair, left 30, FF55 80"
+abbrev pub k6-armed : World
+k6-armed = run (five-falls 0x81 tt ++ (heldBus ∷ to 0xFF4D 0x01 tt ∷ []))
+
+abbrev pub k6 : World
+k6 = after false k6-armed (switch-speed (unheld 4) ∷ falls 0 ∷ heldBus ∷ [])
+
+pub record K6 : Type 0 where
+  pub cut : switchCallOf (k6-armed .engine) (unheld 4) .answer ≡ switched.Cut
+  pub moved : k6 .pairs ≡ upward 3 0x0000 0x8000
+  pub free : k6 .ledger .free-pairs ≡ 1
+  pub left : (k6 .engine .«vram_dma» .cursor .remaining ≡ 30) × (k6 .ledger .left ≡ 30)
+  pub reads : ff55 k6 ≡ 0x80
+
+-- "up at phase 3, down, up, each after FF4D=01, unheld, no interrupt ready, drained between: 131,077, 262,144, 131,079"
+abbrev pub k7-up : World
+k7-up = run (to 0xFF4D 0x01 tt ∷ switch-speed (unheld 3) ∷ [])
+
+abbrev pub k7-down : World
+k7-down = after false k7-up (blackout 131077 ∷ to 0xFF4D 0x01 tt ∷ switch-speed (unheld 3) ∷ [])
+
+abbrev pub k7-again : World
+k7-again = after false k7-down (blackout 262144 ∷ to 0xFF4D 0x01 tt ∷ switch-speed (unheld 3) ∷ [])
+
+pub record K7 : Type 0 where
+  pub up : k7-up .engine .«speed_switch_blackout» ≡ 131077
+  pub down : k7-down .engine .«speed_switch_blackout» ≡ 262144
+  pub again : k7-again .engine .«speed_switch_blackout» ≡ 131079
+
+-- "block edge 100: OAM edges 98, 92 second, 96, 94 first; both 0: second": of two pairs p and q with the bytes b and c, in a
+-- contended call
+pub record K8 (p q : BytePair) (b c : ℕ) (oam : List ℕ) : Type 0 where
+  pub at-98 : deposited true 2 (p ∷ q ∷ []) (b ∷ c ∷ []) (phaseOf 100 98) oam ≡ oamWith oam (0xFE00 + q .source % 256) c
+  pub at-92 : deposited true 2 (p ∷ q ∷ []) (b ∷ c ∷ []) (phaseOf 100 92) oam ≡ oamWith oam (0xFE00 + q .source % 256) c
+  pub at-96 : deposited true 2 (p ∷ q ∷ []) (b ∷ c ∷ []) (phaseOf 100 96) oam ≡ oamWith oam (0xFE00 + p .source % 256) b
+  pub at-94 : deposited true 2 (p ∷ q ∷ []) (b ∷ c ∷ []) (phaseOf 100 94) oam ≡ oamWith oam (0xFE00 + p .source % 256) b
+  pub both-0 : deposited true 2 (p ∷ q ∷ []) (b ∷ c ∷ []) (phaseOf 0 0) oam ≡ oamWith oam (0xFE00 + q .source % 256) c
+
+-- "compat: FF55=00 leaves FF"
+pub record K10 : Type 0 where
+  pub reads : ff55 (after true (start true) (to 0xFF55 0x00 tt ∷ [])) ≡ 0xFF
+
+pub record Cases : Type 0 where
+  pub case1 : (mode : ℕ) → mode < 4 → K1 mode
+  pub case2 : K2
+  pub case3 : K3
+  pub case4 : K4
+  pub case5 : K5
+  pub case6 : K6
+  pub case7 : K7
+  pub case8 : (p q : BytePair) (b c : ℕ) (oam : List ℕ) → K8 p q b c oam
+  pub case10 : K10
