@@ -4,3 +4,4 @@ pub mod Source
 pub mod Store
 pub mod Deposit
 pub mod Commit
+pub mod BusSteps
