@@ -2,7 +2,7 @@
 mod arb;
 mod block;
 mod cursor;
-mod number;
+pub mod number;
 mod oam;
 mod rest;
 mod run;

@@ -40,19 +40,19 @@ pub(crate) fn in_eight(x: u64) -> Eight
     }
 }
 
-pub(crate) fn of_two(b0: u8, b1: u8) -> u16
+pub fn of_two(b0: u8, b1: u8) -> u16
     ensures { λ r. ⌜ r ≡ number (b0 ∷ b1 ∷ []) ⌝ }
 {
     b0 as u16 + 256 * (b1 as u16)
 }
 
-pub(crate) fn of_four(b0: u8, b1: u8, b2: u8, b3: u8) -> u32
+pub fn of_four(b0: u8, b1: u8, b2: u8, b3: u8) -> u32
     ensures { λ r. ⌜ r ≡ number (b0 ∷ b1 ∷ b2 ∷ b3 ∷ []) ⌝ }
 {
     b0 as u32 + 256 * (b1 as u32 + 256 * (b2 as u32 + 256 * (b3 as u32)))
 }
 
-pub(crate) fn of_eight(b0: u8, b1: u8, b2: u8, b3: u8, b4: u8, b5: u8, b6: u8, b7: u8) -> u64
+pub fn of_eight(b0: u8, b1: u8, b2: u8, b3: u8, b4: u8, b5: u8, b6: u8, b7: u8) -> u64
     ensures { λ r. ⌜ r ≡ number (b0 ∷ b1 ∷ b2 ∷ b3 ∷ b4 ∷ b5 ∷ b6 ∷ b7 ∷ []) ⌝ }
 {
     let low = of_four(b0, b1, b2, b3);

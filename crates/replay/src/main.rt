@@ -1,0 +1,124 @@
+// Replays records of 16 bytes from standard input, from power-on without compat, and writes a line for each
+// (document 01, section 6): record from 0, refusal or 0, pairs, left, FF55 in two capitals. It streams:
+// input and output pass through buffers of fixed size.
+mod line;
+
+ghost use Prim.Native.Nat.{_<_, _≤_};
+use console::Cgb;
+use libc::STDIN_FILENO;
+use libc::STDOUT_FILENO;
+use memory::byte_at;
+use replay_step::record;
+use replay_step::record::Record;
+use replay_step::step;
+
+// Below this many bytes the output buffer still takes a line whole.
+const NEARLY_FULL: usize = 65000;
+
+// The engine's state and the next record's number.
+struct Replay {
+    state: Cgb,
+    number: u64,
+}
+
+struct Turned {
+    replay: Replay,
+    more: bool,
+}
+
+// The first 16 bytes.
+fn sixteen(part: &[u8]) -> [u8; 16] {
+    [
+        byte_at(part, 0),
+        byte_at(part, 1),
+        byte_at(part, 2),
+        byte_at(part, 3),
+        byte_at(part, 4),
+        byte_at(part, 5),
+        byte_at(part, 6),
+        byte_at(part, 7),
+        byte_at(part, 8),
+        byte_at(part, 9),
+        byte_at(part, 10),
+        byte_at(part, 11),
+        byte_at(part, 12),
+        byte_at(part, 13),
+        byte_at(part, 14),
+        byte_at(part, 15),
+    ]
+}
+
+// The record at the start of a part; a short one is of no kind.
+fn record_of(part: &[u8]) -> Record {
+    if part.len() < 16 {
+        return Record::Unknown;
+    }
+    record::decode(sixteen(part))
+}
+
+// The place past the record at i.
+fn past(i: usize, end: usize) -> usize
+    requires { ⌜ i < end ⌝ }
+    ensures { λ r. ⌜ (i < r) × (r ≤ end) ⌝ }
+{
+    if end - i < 16 { end } else { i + 16 }
+}
+
+fn flush(out: &[u8], at: usize) {
+    if at <= out.len() {
+        io::write_all(STDOUT_FILENO, &out[0..at]);
+    }
+}
+
+// The records of one part of the input, with their lines written.
+fn feed(r: Replay, part: &[u8], out: &mut [u8], wram: &mut [u8]) -> Replay {
+    let mut state = r.state;
+    let mut number = r.number;
+    let mut at: usize = 0;
+    let mut i: usize = 0;
+    while i < part.len() {
+        let stepped = step::perform(state, wram, record_of(&part[i..]));
+        state = stepped.state;
+        at = line::put_line(out, at, number, stepped.line);
+        number = std::num::wrapping_add_u64(number, 1);
+        if at > NEARLY_FULL {
+            flush(out, at);
+            at = 0;
+        }
+        i = past(i, part.len());
+    }
+    flush(out, at);
+    Replay {
+        state: state,
+        number: number,
+    }
+}
+
+// One turn: a buffer of input, or the end of it.
+fn turn(r: Replay, wram: &mut [u8]) -> Turned {
+    let mut buf = io::large_buffer();
+    let n = io::read_full(STDIN_FILENO, &mut buf);
+    let mut out = io::large_buffer();
+    let replay = feed(r, &buf[..n], &mut out, wram);
+    Turned {
+        replay: replay,
+        more: n == 65536,
+    }
+}
+
+fn main() {
+    let mut wram = [0u8; 32768];
+    let mut replay = Replay {
+        state: engine::power_on(false),
+        number: 0,
+    };
+    let mut turns = u64::MAX;
+    while turns > 0 {
+        let t = turn(replay, &mut wram);
+        replay = t.replay;
+        if !t.more {
+            break;
+        }
+        turns -= 1;
+    }
+}

@@ -1,0 +1,2 @@
+pub mod OtherKind
+pub mod Outcomes

@@ -1,0 +1,4 @@
+// One replay record as a function (document 01, section 6): bytes to a record, a record to a call, its
+// outcome to the numbers of a line.
+pub mod record;
+pub mod step;
