@@ -4,10 +4,12 @@
 //!
 //!     MISSINGNO_SRC=.. cargo run --release -- vectors SEED COUNT [KINDS] > FILE
 //!     MISSINGNO_SRC=.. cargo run --release -- select SEED COUNT [KINDS] > FILE
+//!     MISSINGNO_SRC=.. cargo run --release -- cases > FILE
 //!
 //! The originals name `crate::Cgb`, `crate::vram_dma` and so on, so they stand at this crate's root.
 
 mod calls;
+mod cases;
 mod layout;
 mod memory;
 mod random;
@@ -58,10 +60,11 @@ impl missingno_gb::Model for Cgb {
 
 fn main() {
     let words: Vec<String> = std::env::args().skip(1).collect();
-    let usage = "usage: oracle vectors|select SEED COUNT [KIND,KIND,..]";
+    let usage = "usage: oracle vectors|select SEED COUNT [KIND,KIND,..] | cases";
     match words.first().map(String::as_str) {
         Some("vectors") => vectors::write(&words[1..], usage),
         Some("select") => vectors::select(&words[1..], usage),
+        Some("cases") => cases::write(&mut std::io::stdout().lock()),
         _ => {
             eprintln!("{usage}");
             std::process::exit(2);

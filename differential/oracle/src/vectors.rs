@@ -227,7 +227,7 @@ fn state(r: &mut Random) -> [u8; SIZE] {
     s
 }
 
-fn record(oracle: &mut Oracle, call: &Call, before: &[u8; SIZE]) -> ([u8; RECORD], [u8; SIZE]) {
+pub fn record(oracle: &mut Oracle, call: &Call, before: &[u8; SIZE]) -> ([u8; RECORD], [u8; SIZE]) {
     let outcome = oracle.perform(call, before);
     let mut out = [0u8; RECORD];
     out[..16].copy_from_slice(&call.record);
