@@ -1,13 +1,11 @@
 // One vector: the call is performed by the public functions, and every byte of the answer and of the
 // state after is compared with the original's.
+use crate::bus_vector;
 use crate::fields;
 use crate::lent;
 use bus::arbitration::ArbitrationInput;
-use bus::commit::BusInput;
 use console::Cgb;
 use engine::answer::ArbitrationAnswer;
-use engine::answer::BusAnswer;
-use engine::answer::Bussed;
 use engine::answer::ByteAnswer;
 use engine::answer::ClaimAnswer;
 use engine::answer::ConflictAnswer;
@@ -22,7 +20,6 @@ use memory::byte_at;
 use registers::WriteInput;
 use speed_switch::switch::SwitchInput;
 use transfer::VramDmaStatus;
-use transfer::pair::BytePair;
 
 // The answer as the vector has it: the refusal or 0, a value, three numbers; and the state after.
 struct Outcome {
@@ -47,11 +44,11 @@ fn value(v: u8) -> [u8; 8] {
     words(v, 0, 0, 0)
 }
 
-fn refused(n: u8) -> [u8; 8] {
+pub fn refused(n: u8) -> [u8; 8] {
     [n, 0, 0, 0, 0, 0, 0, 0]
 }
 
-fn bit(b: bool) -> u8 {
+pub fn bit(b: bool) -> u8 {
     if b { 1 } else { 0 }
 }
 
@@ -151,7 +148,7 @@ fn status(a: StatusAnswer) -> [u8; 8] {
     }
 }
 
-fn edge(record: &[u8; 576]) -> u64 {
+pub fn edge(record: &[u8; 576]) -> u64 {
     let low = fields::four(record[8], record[9], record[10], record[11]);
     let high = fields::four(record[12], record[13], record[14], record[15]);
     fields::eight(low, high)
@@ -377,26 +374,13 @@ fn answer(record: &[u8; 576]) -> [u8; 8] {
     ]
 }
 
-fn more(record: &[u8; 576]) -> [u8; 8] {
-    [
-        record[288],
-        record[289],
-        record[290],
-        record[291],
-        record[292],
-        record[293],
-        record[294],
-        record[295],
-    ]
-}
-
-fn state_agrees(record: &[u8; 576], state: Cgb) -> bool {
+pub fn state_agrees(record: &[u8; 576], state: Cgb) -> bool {
     let encoded = codec::encode(state);
     let after = state_after(record);
     check::same(&after, &encoded)
 }
 
-fn answer_agrees(record: &[u8; 576], given: [u8; 8]) -> bool {
+pub fn answer_agrees(record: &[u8; 576], given: [u8; 8]) -> bool {
     let wanted = answer(record);
     check::same(&wanted, &given)
 }
@@ -414,104 +398,6 @@ fn access_agrees(record: &[u8; 576], state: Cgb, wram: &mut [u8]) -> bool {
     outcome_agrees(record, o) & kept
 }
 
-// The first pair, count and set-up cell, or the refusal.
-fn moved(a: BusAnswer, first: BytePair, byte: u8) -> [u8; 8] {
-    match a {
-        BusAnswer::Moved { count, setup_cell } => [
-            0,
-            count,
-            bit(setup_cell),
-            (first.source % 256) as u8,
-            (first.source / 256) as u8,
-            (first.dest % 256) as u8,
-            (first.dest / 256) as u8,
-            byte,
-        ],
-        BusAnswer::Refused(n) => refused(n),
-    }
-}
-
-fn second(pair: BytePair, byte: u8) -> [u8; 8] {
-    [
-        (pair.source % 256) as u8,
-        (pair.source / 256) as u8,
-        (pair.dest % 256) as u8,
-        (pair.dest / 256) as u8,
-        byte,
-        0,
-        0,
-        0,
-    ]
-}
-
-fn bussed_agrees(record: &[u8; 576], b: Bussed) -> bool {
-    let answer = b.answer;
-    let pairs = b.pairs;
-    let bytes = b.bytes;
-    let state = b.state;
-    let given = moved(answer, pairs[0], bytes[0]);
-    let rest = second(pairs[1], bytes[1]);
-    let wanted = more(record);
-    answer_agrees(record, given) & check::same(&wanted, &rest) & state_agrees(record, state)
-}
-
-fn bus_call(
-    s: Cgb,
-    record: &[u8; 576],
-    cartridge: &[u8],
-    wram: &[u8],
-    vram: &mut [u8],
-    oam: &mut [u8],
-) -> Bussed {
-    let input = BusInput {
-        hold: record[5] % 2 == 1,
-        suspended: record[5] / 2 % 2 == 1,
-        oam_start_edge: edge(record),
-    };
-    let c = lent::fit(
-        fields::four(record[16], record[17], record[18], record[19]),
-        cartridge.len(),
-    );
-    let w = lent::fit(
-        fields::four(record[20], record[21], record[22], record[23]),
-        wram.len(),
-    );
-    let v = lent::fit(
-        fields::four(record[24], record[25], record[26], record[27]),
-        vram.len(),
-    );
-    let o = lent::fit(
-        fields::four(record[28], record[29], record[30], record[31]),
-        oam.len(),
-    );
-    engine::bus_call::vram_dma_commit_bytes(
-        s,
-        input,
-        &cartridge[0..c],
-        &wram[0..w],
-        &mut vram[0..v],
-        &mut oam[0..o],
-    )
-}
-
-fn bus_agrees(
-    record: &[u8; 576],
-    state: Cgb,
-    cartridge: &mut [u8],
-    wram: &mut [u8],
-    vram: &mut [u8],
-    oam: &mut [u8],
-) -> bool {
-    lent::fill(cartridge, lent::CARTRIDGE, record[1]);
-    lent::fill(wram, lent::WRAM, record[1]);
-    lent::fill(vram, lent::VRAM, record[1]);
-    lent::fill(oam, lent::OAM, record[1]);
-    let b = bus_call(state, record, cartridge, wram, vram, oam);
-    let kept_vram = lent::as_named(vram, lent::VRAM, record);
-    let kept_oam = lent::as_named(oam, lent::OAM, record);
-    bussed_agrees(record, b) & kept_vram & kept_oam
-}
-
 pub fn agrees(
     record: &[u8; 576],
     cartridge: &mut [u8],
@@ -523,7 +409,7 @@ pub fn agrees(
     let state = decoded.state;
     let kind = record[0];
     if kind == 9 {
-        return bus_agrees(record, state, cartridge, wram, vram, oam) & decoded.valid;
+        return bus_vector::agrees(record, state, cartridge, wram, vram, oam) & decoded.valid;
     }
     if (kind == 1) | (kind == 8) {
         return access_agrees(record, state, wram) & decoded.valid;

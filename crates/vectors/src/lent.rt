@@ -23,6 +23,18 @@ pub fn fill(memory: &mut [u8], which: u8, seed: u8) {
     }
 }
 
+// What a bus call reads.
+pub fn fill_sources(cartridge: &mut [u8], wram: &mut [u8], seed: u8) {
+    fill(cartridge, CARTRIDGE, seed);
+    fill(wram, WRAM, seed);
+}
+
+// What a bus call stores to.
+pub fn fill_targets(vram: &mut [u8], oam: &mut [u8], seed: u8) {
+    fill(vram, VRAM, seed);
+    fill(oam, OAM, seed);
+}
+
 fn unchanged(memory: &[u8], which: u8, seed: u8) -> bool {
     let mut same = true;
     for i in 0..memory.len() {
@@ -33,25 +45,48 @@ fn unchanged(memory: &[u8], which: u8, seed: u8) -> bool {
     same
 }
 
-// Takes back one named change of this memory: whether the byte was as named.
-fn taken_back(memory: &mut [u8], which: u8, record: &[u8; 576], at: usize) -> bool {
-    let named = byte_at(record, at) == which;
-    if named {
-        let index = fields::two(byte_at(record, at + 1), byte_at(record, at + 2)) as usize;
-        let same = byte_at(memory, index) == byte_at(record, at + 3);
-        put_at(memory, index, filled(which, record[1], index));
-        return same;
+// A byte that a call changed, as a record names it.
+struct Change {
+    which: u8,
+    index: usize,
+    value: u8,
+}
+
+fn named(which: u8, low: u8, high: u8, value: u8) -> Change {
+    Change {
+        which: which,
+        index: fields::two(low, high) as usize,
+        value: value,
     }
-    true
+}
+
+// Takes back a named change of this memory: whether the byte was as named.
+fn taken_back(memory: &mut [u8], which: u8, seed: u8, c: Change) -> bool {
+    if c.which != which {
+        return true;
+    }
+    let same = byte_at(memory, c.index) == c.value;
+    put_at(memory, c.index, filled(which, seed, c.index));
+    same
 }
 
 // Every byte is as filled, but for those that the record names. Cartridge is never named: 0 is none.
 pub fn as_named(memory: &mut [u8], which: u8, record: &[u8; 576]) -> bool {
-    let a = taken_back(memory, which, record, 560);
-    let b = taken_back(memory, which, record, 564);
-    let c = taken_back(memory, which, record, 568);
-    let d = taken_back(memory, which, record, 572);
+    let first = named(record[560], record[561], record[562], record[563]);
+    let second = named(record[564], record[565], record[566], record[567]);
+    let third = named(record[568], record[569], record[570], record[571]);
+    let fourth = named(record[572], record[573], record[574], record[575]);
+    let a = taken_back(memory, which, record[1], first);
+    let b = taken_back(memory, which, record[1], second);
+    let c = taken_back(memory, which, record[1], third);
+    let d = taken_back(memory, which, record[1], fourth);
     a & b & c & d & unchanged(memory, which, record[1])
+}
+
+pub fn targets_as_named(vram: &mut [u8], oam: &mut [u8], record: &[u8; 576]) -> bool {
+    let stored = as_named(vram, VRAM, record);
+    let deposited = as_named(oam, OAM, record);
+    stored & deposited
 }
 
 // The length that a call is given, of a memory that has no more than `limit`.

@@ -1,5 +1,6 @@
 // Replays vectors that the original made (differential/): each is a call, the state before, the
 // original's answer, the state after and the bytes of memory that it changed. Any difference is a line.
+mod bus_vector;
 mod call;
 mod fields;
 mod lent;

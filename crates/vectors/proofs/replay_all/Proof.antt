@@ -6,10 +6,15 @@ use Rattle.vectors.proofs.replay_all.Statement.{statement}
 use Rattle.vectors.proofs.replay_all.Tie as tie
 
 abbrev Inv-loop : tie.InvT-loop
-Inv-loop memory₀ t₀ turns₀ record₀ memory t turns «record» = (length «record» ≡ 576) × (length memory ≡ length memory₀)
+Inv-loop cartridge₀ wram₀ vram₀ oam₀ t₀ turns₀ record₀ cartridge wram vram oam t turns «record» =
+    (length «record» ≡ 576)
+    × (length cartridge ≡ length cartridge₀)
+    × (length wram ≡ length wram₀)
+    × (length vram ≡ length vram₀)
+    × (length oam ≡ length oam₀)
 
 abbrev μ-loop : tie.MeasureT-loop
-μ-loop memory₀ t₀ turns₀ record₀ memory t turns «record» = turns
+μ-loop cartridge₀ wram₀ vram₀ oam₀ t₀ turns₀ record₀ cartridge wram vram oam t turns «record» = turns
 
 loop-holds : tie.Need-loop-holds Inv-loop μ-loop
 loop-holds c = search needs
@@ -22,6 +27,15 @@ read-full-requires c κs = search needs
 
 same-length : tie.Need-same-length Inv-loop μ-loop
 same-length c = search needs
+
+same-length-2 : tie.Need-same-length-2 Inv-loop μ-loop
+same-length-2 c = search needs
+
+same-length-3 : tie.Need-same-length-3 Inv-loop μ-loop
+same-length-3 c = search needs
+
+same-length-4 : tie.Need-same-length-4 Inv-loop μ-loop
+same-length-4 c = search needs
 
 returns : tie.Need-returns Inv-loop μ-loop
 returns c = search needs
@@ -38,11 +52,20 @@ loop-less c = search needs
 loop-again : tie.Need-loop-again Inv-loop μ-loop
 loop-again c = search needs
 
-same-length-2 : tie.Need-same-length-2 Inv-loop μ-loop
-same-length-2 c = search needs
+same-length-5 : tie.Need-same-length-5 Inv-loop μ-loop
+same-length-5 c = search needs
+
+same-length-6 : tie.Need-same-length-6 Inv-loop μ-loop
+same-length-6 c = search needs
+
+same-length-7 : tie.Need-same-length-7 Inv-loop μ-loop
+same-length-7 c = search needs
+
+same-length-8 : tie.Need-same-length-8 Inv-loop μ-loop
+same-length-8 c = search needs
 
 returns-2 : tie.Need-returns-2 Inv-loop μ-loop
 returns-2 c = search needs
 
 pub replay-all-spec : {M : Type 1} → statement M
-replay-all-spec = tie.close (tie.spec Inv-loop μ-loop loop-holds slice-aggregate-read-full read-full-requires same-length returns replay-requires sub-turns loop-less loop-again same-length-2 returns-2)
+replay-all-spec = tie.close (tie.spec Inv-loop μ-loop loop-holds slice-aggregate-read-full read-full-requires same-length same-length-2 same-length-3 same-length-4 returns replay-requires sub-turns loop-less loop-again same-length-5 same-length-6 same-length-7 same-length-8 returns-2)

@@ -7,10 +7,10 @@ use Rattle.vectors.proofs.lent.fill.Statement.{statement}
 use Rattle.vectors.proofs.lent.fill.Tie as tie
 
 abbrev Inv-loop : tie.InvT-loop
-Inv-loop memory₀ seed i₀ i-end memory i = (i ≤ i-end) × (i-end ≡ length memory)
+Inv-loop memory₀ which seed i₀ i-end memory i = (i ≤ i-end) × (i-end ≡ length memory)
 
 abbrev μ-loop : tie.MeasureT-loop
-μ-loop memory₀ seed i₀ i-end memory i = i-end - i
+μ-loop memory₀ which seed i₀ i-end memory i = i-end - i
 
 loop-holds : tie.Need-loop-holds Inv-loop μ-loop
 loop-holds c = search needs
