@@ -1,7 +1,9 @@
 //! Vectors: half of them step lists of calls from power-on, half start from arbitrary states, of which a few
 //! fail refusal 7. One vector is 576 bytes: 0-15 the call's record, 16-31 the four lengths, 32-279 the state
 //! before, 280-311 the answer, 312-559 the state after, 560-575 up to four changed bytes of memory (which
-//! slice, or 0 for none; the index in two bytes; the value).
+//! slice, or 0 for none; the index in two bytes; the value). An answer is the refusal, or 0, and then the
+//! values; of a bus call 280 the refusal, 281 the count of pairs, 282 the set-up cell, 283-287 the first
+//! pair's source, destination and byte, 288-292 the second's.
 use std::collections::HashSet;
 use std::io::{BufWriter, Write};
 
@@ -296,6 +298,13 @@ pub fn write(given: &[String], usage: &str) {
     out.flush().unwrap();
 }
 
+/// What tells a bus call apart besides: the slices' lengths, the set-up cell and the slices of its changed
+/// bytes, so that stores, deposits and each wrong length are selected.
+fn bus_sort(bytes: &[u8; RECORD]) -> Vec<u8> {
+    let places = (16..32).chain([282, 560, 564, 568, 572]);
+    if bytes[0] == kind::BUS { places.map(|at| bytes[at]).collect() } else { Vec::new() }
+}
+
 /// The first vector of each sort among `count`: kind, refusal, answer, and which bytes of the state changed.
 pub fn select(given: &[String], usage: &str) {
     let w = words(given, usage);
@@ -303,7 +312,8 @@ pub fn select(given: &[String], usage: &str) {
     let mut seen = HashSet::new();
     generate(w.seed, w.count, &w.kinds, |bytes| {
         let changed: Vec<bool> = (0..91).map(|k| bytes[32 + k] != bytes[312 + k]).collect();
-        !seen.insert((bytes[0], bytes[280], bytes[281], changed)) || out.write_all(bytes).is_ok()
+        let sort = (bytes[0], bytes[280], bytes[281], bus_sort(bytes), changed);
+        !seen.insert(sort) || out.write_all(bytes).is_ok()
     });
     out.flush().unwrap();
     eprintln!("{} of {} vectors selected", seen.len(), w.count);
