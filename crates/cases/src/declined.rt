@@ -1,8 +1,8 @@
 // Falls and switches that are declined, beside neighbours that are not.
-use crate::calls;
 use crate::pairs;
-use crate::say;
 use console::Cgb;
+use observe::calls;
+use observe::say;
 
 // A switch attempt that must leave the state as it is.
 fn declined(label: &[u8], state: Cgb, dot_phase: u8, hold: bool) {

@@ -1,8 +1,8 @@
 // K9: blocks are granted and never moved, until the count is full.
-use crate::calls;
-use crate::say;
 use console::Cgb;
 use engine::answer::ClaimAnswer;
+use observe::calls;
+use observe::say;
 
 // Where the run stands; from the first refusal on it does not go on.
 struct Course {

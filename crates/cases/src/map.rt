@@ -1,6 +1,6 @@
 // The register and WRAM map: K3, K10, reads and writes, their declined inputs, and refusal 7.
-use crate::say;
 use console::Cgb;
+use observe::say;
 use registers::WriteInput;
 
 // A write with the LCD on, of which only the state is wanted.

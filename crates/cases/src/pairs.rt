@@ -1,9 +1,9 @@
 // K4 and K5: General transfers by rounds of a fall and next pairs.
-use crate::calls;
-use crate::say;
 use console::Cgb;
 use countdown::step::saturating_inc;
 use engine::answer::PairAnswer;
+use observe::calls;
+use observe::say;
 use transfer::pair::BytePair;
 
 // A transfer under way, with what has come of it.

@@ -1,5 +1,6 @@
 // The public calls with the inputs that the cases leave alone, and lines for what they answer.
 use crate::say;
+use bus::arbitration::ArbitrationInput;
 use console::Cgb;
 use engine::answer::Fell;
 use engine::answer::Handed;
@@ -62,6 +63,32 @@ pub fn fall(state: Cgb, mode: u8, halted: bool) -> Fell {
 // A running fall, of which only the state is wanted.
 pub fn fallen(state: Cgb, mode: u8) -> Cgb {
     fall(state, mode, false).state
+}
+
+// A running fall at a master edge, which a commit takes for its block.
+pub fn fallen_at(state: Cgb, mode: u8, master_edge: u64) -> Cgb {
+    let input = FallInput {
+        mode: mode,
+        halted: false,
+        irq_latched: false,
+        stopped: false,
+        master_edge: master_edge,
+        oam_owns_bus: false,
+    };
+    engine::fall::vram_dma_fall_edge(state, input).state
+}
+
+// Arbitration of a held bus while OAM DMA drives a byte.
+pub fn arbitrate(label: &[u8], state: Cgb) -> Cgb {
+    let input = ArbitrationInput {
+        hold: true,
+        suspended: false,
+        oam_transferring: true,
+    };
+    let arbitrated = engine::shared_bus::vram_dma_arbitrate_oam(state, input);
+    let answer = arbitrated.answer;
+    say::arbitrated(label, answer);
+    arbitrated.state
 }
 
 fn handed(label: &[u8], h: Handed) -> Cgb {

@@ -1,4 +1,6 @@
 // Lines of text: a label and what an answer says.
+use engine::answer::ArbitrationAnswer;
+use engine::answer::BusAnswer;
 use engine::answer::ByteAnswer;
 use engine::answer::ClaimAnswer;
 use engine::answer::DoneAnswer;
@@ -7,6 +9,7 @@ use engine::answer::PairAnswer;
 use engine::answer::SwitchAnswer;
 use engine::answer::TallyAnswer;
 use libc::STDOUT_FILENO;
+use memory::byte_at;
 use transfer::pair::BytePair;
 
 fn text(bytes: &[u8]) {
@@ -58,6 +61,24 @@ pub fn case(name: &[u8]) {
 pub fn hex(label: &[u8], b: u8) {
     text(label);
     two_digits(b);
+    text(b"\n");
+}
+
+fn spaced(b: u8) {
+    text(b" ");
+    two_digits(b);
+}
+
+fn each_spaced(bytes: &[u8], count: usize) {
+    for i in 0..count {
+        spaced(byte_at(bytes, i));
+    }
+}
+
+// The first bytes of a slice, on one line.
+pub fn row(label: &[u8], bytes: &[u8], count: usize) {
+    text(label);
+    each_spaced(bytes, count);
     text(b"\n");
 }
 
@@ -124,6 +145,41 @@ pub fn pair(label: &[u8], answer: PairAnswer) {
         PairAnswer::Pair(p) => addresses(p),
         PairAnswer::None => text(b"none\n"),
         PairAnswer::Refused(n) => refused(n),
+    }
+}
+
+// A pair with the byte that it moved.
+pub fn moved_pair(p: BytePair, byte: u8) {
+    four_digits(p.source);
+    text(b" to ");
+    four_digits(p.dest);
+    text(b": ");
+    two_digits(byte);
+    text(b"\n");
+}
+
+// How many pairs a bus call moved, and whether a set-up cell used it up.
+pub fn bussed(label: &[u8], answer: BusAnswer) {
+    text(label);
+    match answer {
+        BusAnswer::Moved { count, setup_cell } => {
+            decimal(count as u64);
+            if setup_cell {
+                text(b", set-up cell");
+            }
+            text(b"\n");
+        }
+        BusAnswer::Refused(n) => refused(n),
+    }
+}
+
+pub fn arbitrated(label: &[u8], answer: ArbitrationAnswer) {
+    text(label);
+    match answer {
+        ArbitrationAnswer::Clear => text(b"clear\n"),
+        ArbitrationAnswer::Contended => text(b"contended\n"),
+        ArbitrationAnswer::Stall => text(b"stall\n"),
+        ArbitrationAnswer::Refused(n) => refused(n),
     }
 }
 

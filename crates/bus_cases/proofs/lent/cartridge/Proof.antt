@@ -1,0 +1,40 @@
+-- `cartridge` ends and stays inside its array. Assumes nothing.
+use Prim.Native.Nat.{_≤_, _-_}
+use mathlib.Core.Path.{_≡_}
+use borrow.Author.Needs.{needs}
+use lib.ListN.{length}
+use Rattle.bus_cases.proofs.lent.cartridge.Statement.{statement}
+use Rattle.bus_cases.proofs.lent.cartridge.Tie as tie
+
+abbrev Inv-loop : tie.InvT-loop
+Inv-loop bytes₀ i₀ bytes i = (i ≤ 256) × (length bytes ≡ 40960)
+
+abbrev μ-loop : tie.MeasureT-loop
+μ-loop bytes₀ i₀ bytes i = 256 - i
+
+loop-holds : tie.Need-loop-holds Inv-loop μ-loop
+loop-holds c = search needs
+
+add-bytes : tie.Need-add-bytes Inv-loop μ-loop
+add-bytes c = search needs
+
+cast-bytes : tie.Need-cast-bytes Inv-loop μ-loop
+cast-bytes c = search needs
+
+array-write-bytes : tie.Need-array-write-bytes Inv-loop μ-loop
+array-write-bytes c = search needs
+
+add-i : tie.Need-add-i Inv-loop μ-loop
+add-i c = search needs
+
+loop-less : tie.Need-loop-less Inv-loop μ-loop
+loop-less c = search needs
+
+loop-again : tie.Need-loop-again Inv-loop μ-loop
+loop-again c = search needs
+
+returns : tie.Need-returns Inv-loop μ-loop
+returns c = search needs
+
+pub cartridge-spec : {M : Type 1} → statement M
+cartridge-spec = tie.close (tie.spec Inv-loop μ-loop loop-holds add-bytes cast-bytes array-write-bytes add-i loop-less loop-again returns)

@@ -1,0 +1,54 @@
+// K1: a General transfer by rounds of a fall and a held bus call.
+use crate::held;
+use crate::lent;
+use console::Cgb;
+use observe::calls;
+use observe::say;
+
+pub fn round(
+    state: Cgb,
+    cartridge: &[u8; 40960],
+    vram: &mut [u8; 16384],
+    oam: &mut [u8; 160],
+) -> Cgb {
+    held::beside(
+        b"fall, bus, pairs: ",
+        calls::fallen(state, 3),
+        0,
+        cartridge,
+        vram,
+        oam,
+    )
+}
+
+pub fn four_rounds(
+    state: Cgb,
+    cartridge: &[u8; 40960],
+    vram: &mut [u8; 16384],
+    oam: &mut [u8; 160],
+) -> Cgb {
+    let one = round(state, cartridge, vram, oam);
+    let two = round(one, cartridge, vram, oam);
+    let three = round(two, cartridge, vram, oam);
+    round(three, cartridge, vram, oam)
+}
+
+// FF, and the row of VRAM that was moved, with the byte behind it.
+fn end(state: Cgb, vram: &[u8; 16384]) {
+    calls::read(b"FF55: ", state, 0xFF55);
+    say::row(b"VRAM from 8000:", vram, 17);
+}
+
+// FF55=00; eight rounds: 0000h to 8000h, up to 000Fh to 800Fh; then FF, and a ninth brings none.
+pub fn k1() {
+    say::case(b"K1");
+    let cartridge = lent::cartridge();
+    let mut vram = [0u8; 16384];
+    let mut oam = [0u8; 160];
+    let general = calls::set(engine::power_on(false), 0xFF55, 0x00);
+    let half = four_rounds(general, &cartridge, &mut vram, &mut oam);
+    let all = four_rounds(half, &cartridge, &mut vram, &mut oam);
+    let after = round(all, &cartridge, &mut vram, &mut oam);
+    end(after, &vram);
+    lent::stored(&vram, &oam);
+}

@@ -1,0 +1,60 @@
+// A held bus call, with lines for what it moved.
+use crate::lent;
+use bus::commit::BusInput;
+use console::Cgb;
+use engine::answer::BusAnswer;
+use engine::answer::Bussed;
+use observe::say;
+use transfer::pair::BytePair;
+
+fn count(answer: BusAnswer) -> u8 {
+    match answer {
+        BusAnswer::Moved { count, .. } => count,
+        BusAnswer::Refused(_) => 0,
+    }
+}
+
+fn told(there: bool, pair: BytePair, byte: u8) {
+    if there {
+        say::moved_pair(pair, byte);
+    }
+}
+
+// The pairs in order, as many as the answer says.
+fn tell(label: &[u8], b: Bussed) -> Cgb {
+    let answer = b.answer;
+    let pairs = b.pairs;
+    let bytes = b.bytes;
+    say::bussed(label, answer);
+    let n = count(answer);
+    told(n > 0, pairs[0], bytes[0]);
+    told(n > 1, pairs[1], bytes[1]);
+    b.state
+}
+
+// Beside an OAM DMA that started at this edge.
+pub fn beside(
+    label: &[u8],
+    state: Cgb,
+    oam_start_edge: u64,
+    cartridge: &[u8; 40960],
+    vram: &mut [u8; 16384],
+    oam: &mut [u8; 160],
+) -> Cgb {
+    let wram = [0u8; 32768];
+    let input = BusInput {
+        hold: true,
+        suspended: false,
+        oam_start_edge: oam_start_edge,
+    };
+    let b = engine::bus_call::vram_dma_commit_bytes(state, input, cartridge, &wram, vram, oam);
+    tell(label, b)
+}
+
+// In memory of its own.
+pub fn alone(label: &[u8], state: Cgb) -> Cgb {
+    let cartridge = lent::cartridge();
+    let mut vram = [0u8; 16384];
+    let mut oam = [0u8; 160];
+    beside(label, state, 0, &cartridge, &mut vram, &mut oam)
+}

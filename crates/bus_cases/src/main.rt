@@ -1,0 +1,13 @@
+// Runs document 01's cases with a bus call through the public calls, a line for each observation. What
+// the lines must say stands in the file stdout, written from the paper's numbers and rules.
+mod cut;
+mod general;
+mod hblank;
+mod held;
+mod lent;
+
+fn main() {
+    general::k1();
+    hblank::k2();
+    cut::k6();
+}
