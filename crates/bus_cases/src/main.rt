@@ -1,6 +1,7 @@
 // Runs document 01's cases with a bus call through the public calls, a line for each observation. What
 // the lines must say stands in the file stdout, written from the paper's numbers and rules.
 mod cut;
+mod deposit;
 mod general;
 mod hblank;
 mod held;
@@ -10,4 +11,6 @@ fn main() {
     general::k1();
     hblank::k2();
     cut::k6();
+    deposit::k8();
+    deposit::last_place();
 }
