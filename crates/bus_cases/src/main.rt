@@ -5,6 +5,7 @@ mod deposit;
 mod general;
 mod hblank;
 mod held;
+mod lengths;
 mod lent;
 
 fn main() {
@@ -13,4 +14,5 @@ fn main() {
     cut::k6();
     deposit::k8();
     deposit::last_place();
+    lengths::each();
 }
