@@ -88,13 +88,17 @@ fn first_refusal(start: Course) -> Course {
     c
 }
 
-pub fn k9() {
-    say::case(b"K9");
-    let c = first_refusal(begin(calls::set(engine::power_on(false), 0xFF55, 0xFF)));
+fn tell(c: Course) {
     say::number(b"first refusal in round: ", c.round as u32);
     say::number(b"fall: ", c.fall as u32);
     say::number(b"refused: ", c.refused as u32);
     say::yes(b"state as before: ", c.kept);
+}
+
+pub fn k9() {
+    say::case(b"K9");
+    let c = first_refusal(begin(calls::set(engine::power_on(false), 0xFF55, 0xFF)));
+    tell(c);
     calls::tally(b"tally: ", c.state);
     calls::read(b"FF55: ", c.state, 0xFF55);
 }

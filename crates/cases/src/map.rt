@@ -1,5 +1,6 @@
 // The register and WRAM map: K3, K10, reads and writes, their declined inputs, and refusal 7.
 use console::Cgb;
+use observe::calls;
 use observe::say;
 use registers::WriteInput;
 
@@ -36,18 +37,20 @@ fn read(label: &[u8], state: Cgb, wram: &[u8; 32768], address: u16) {
     read_of(label, state, wram, address);
 }
 
-fn tally(label: &[u8], state: Cgb) {
-    say::tally(label, engine::query::tally(state));
-}
-
 // K3: 83 then 00 in front of any fall.
 fn k3() {
-    let mut wram = [0u8; 32768];
-    let s = engine::power_on(false);
-    let armed = set(s, &mut wram, 0xFF55, 0x83);
-    read(b"K3 armed with 83: ", armed, &wram, 0xFF55);
-    let cancelled = set(armed, &mut wram, 0xFF55, 0x00);
-    read(b"K3 then 00: ", cancelled, &wram, 0xFF55);
+    let armed = calls::set(engine::power_on(false), 0xFF55, 0x83);
+    calls::read(b"K3 armed with 83: ", armed, 0xFF55);
+    let cancelled = calls::set(armed, 0xFF55, 0x00);
+    calls::read(b"K3 then 00: ", cancelled, 0xFF55);
+}
+
+fn locked(state: Cgb) {
+    calls::read(b"K10 FF55: ", state, 0xFF55);
+    calls::read(b"K10 FF4C: ", state, 0xFF4C);
+    calls::read(b"K10 FF4D: ", state, 0xFF4D);
+    calls::read(b"K10 FF70: ", state, 0xFF70);
+    calls::read(b"K10 FF74: ", state, 0xFF74);
 }
 
 // K10: compat locks FF55.
@@ -55,47 +58,46 @@ fn k10() {
     let mut wram = [0u8; 32768];
     let s = engine::power_on(true);
     let after = written(b"K10 FF55=00: ", s, &mut wram, 0xFF55, 0x00);
-    read(b"K10 FF55: ", after, &wram, 0xFF55);
-    read(b"K10 FF4C: ", after, &wram, 0xFF4C);
-    read(b"K10 FF4D: ", after, &wram, 0xFF4D);
-    read(b"K10 FF70: ", after, &wram, 0xFF70);
-    read(b"K10 FF74: ", after, &wram, 0xFF74);
+    locked(after);
 }
 
 // Registers at power-on and after a write.
-fn registers_read() {
-    let mut wram = [0u8; 32768];
-    let s = engine::power_on(false);
-    read(b"FF4D: ", s, &wram, 0xFF4D);
-    let armed = set(s, &mut wram, 0xFF4D, 0x01);
-    read(b"FF4D=01: ", armed, &wram, 0xFF4D);
-    read(b"FF70: ", s, &wram, 0xFF70);
-    read(b"FF4F: ", s, &wram, 0xFF4F);
+fn registers_read(state: Cgb) {
+    calls::read(b"FF4D: ", state, 0xFF4D);
+    let armed = calls::set(state, 0xFF4D, 0x01);
+    calls::read(b"FF4D=01: ", armed, 0xFF4D);
+    calls::read(b"FF70: ", state, 0xFF70);
+    calls::read(b"FF4F: ", state, 0xFF4F);
 }
 
-// Work RAM with its echo and its banks, and the extra OAM rows.
-fn memory_read() {
+// Work RAM repeats from E000 up.
+fn echo(state: Cgb) {
     let mut wram = [0u8; 32768];
-    let low = set(engine::power_on(false), &mut wram, 0xC000, 0x12);
+    let low = set(state, &mut wram, 0xC000, 0x12);
     read(b"C000=12, E000: ", low, &wram, 0xE000);
-    let bank2 = set(low, &mut wram, 0xFF70, 0x02);
+}
+
+// D000 up is in the bank of FF70, where 0 means 1.
+fn banks(state: Cgb) {
+    let mut wram = [0u8; 32768];
+    let bank2 = set(state, &mut wram, 0xFF70, 0x02);
     let held = set(bank2, &mut wram, 0xD000, 0x34);
     read(b"bank 2, D000=34, F000: ", held, &wram, 0xF000);
     let bank0 = set(held, &mut wram, 0xFF70, 0x00);
     read(b"bank 0, D000: ", bank0, &wram, 0xD000);
-    let row = set(bank0, &mut wram, 0xFEA1, 0x56);
-    read(b"FEA1=56, FEB9: ", row, &wram, 0xFEB9);
 }
 
-fn pointers() {
-    let mut wram = [0u8; 32768];
-    let a = set(engine::power_on(false), &mut wram, 0xFF51, 0x12);
-    let b = set(a, &mut wram, 0xFF52, 0x34);
-    let c = set(b, &mut wram, 0xFF53, 0xFF);
-    let d = set(c, &mut wram, 0xFF54, 0xFF);
-    tally(b"1234 to FFFF: ", d);
-    let e = set(d, &mut wram, 0xFF55, 0x01);
-    tally(b"and FF55=01: ", e);
+// The extra OAM rows repeat each eight bytes.
+fn extra_rows(state: Cgb) {
+    let row = calls::set(state, 0xFEA1, 0x56);
+    calls::read(b"FEA1=56, FEB9: ", row, 0xFEB9);
+}
+
+fn pointers(state: Cgb) {
+    let source = calls::set(calls::set(state, 0xFF51, 0x12), 0xFF52, 0x34);
+    let both = calls::set(calls::set(source, 0xFF53, 0xFF), 0xFF54, 0xFF);
+    calls::tally(b"1234 to FFFF: ", both);
+    calls::tally(b"and FF55=01: ", calls::set(both, 0xFF55, 0x01));
 }
 
 // 2 comes before 4.
@@ -112,9 +114,9 @@ fn lengths_written(state: Cgb) {
     let mut short = [0u8; 32767];
     let mut long = [0u8; 32769];
     let a = wrote(b"write FF55, one short: ", state, &mut short, 0xFF55, 0x00);
-    tally(b"then: ", a);
+    calls::tally(b"then: ", a);
     let b = wrote(b"write C000, one long: ", state, &mut long, 0xC000, 0x77);
-    tally(b"then: ", b);
+    calls::tally(b"then: ", b);
     say::hex(b"and C000 holds: ", memory::byte_at(&long, 0));
 }
 
@@ -167,16 +169,16 @@ fn with_bank(mut state: Cgb, bank: u8) -> Cgb {
 
 // Five of refusal 7's tests, in the paper's order, each with its good neighbour. (`seven_first` has the sixth.)
 fn states(state: Cgb) {
-    tally(b"quota 2: ", with_quota(state, 2));
-    tally(b"quota 3: ", with_quota(state, 3));
-    tally(b"block 16: ", with_block(state, 16));
-    tally(b"block 17: ", with_block(state, 17));
-    tally(b"left 2048: ", with_left(state, 2048));
-    tally(b"left 2049: ", with_left(state, 2049));
-    tally(b"FF70 7: ", with_svbk(state, 7));
-    tally(b"FF70 8: ", with_svbk(state, 8));
-    tally(b"bank 1: ", with_bank(state, 1));
-    tally(b"bank 2: ", with_bank(state, 2));
+    calls::tally(b"quota 2: ", with_quota(state, 2));
+    calls::tally(b"quota 3: ", with_quota(state, 3));
+    calls::tally(b"block 16: ", with_block(state, 16));
+    calls::tally(b"block 17: ", with_block(state, 17));
+    calls::tally(b"left 2048: ", with_left(state, 2048));
+    calls::tally(b"left 2049: ", with_left(state, 2049));
+    calls::tally(b"FF70 7: ", with_svbk(state, 7));
+    calls::tally(b"FF70 8: ", with_svbk(state, 8));
+    calls::tally(b"bank 1: ", with_bank(state, 1));
+    calls::tally(b"bank 2: ", with_bank(state, 2));
 }
 
 // Left 0 in a mode other than Idle, with a slice of the wrong length at an address of no map.
@@ -190,19 +192,25 @@ fn seven_first() {
     let _w = written(b"and written: ", armed, &mut wram, 0xFF55, 0x00);
 }
 
-pub fn map() {
-    k3();
-    k10();
-    registers_read();
-    memory_read();
-    pointers();
-    let state = engine::power_on(false);
+fn declined(state: Cgb) {
     lengths_read(state);
     lengths_written(state);
     addresses(state);
     colors(state);
     states(state);
     seven_first();
+}
+
+pub fn map() {
+    k3();
+    k10();
+    let state = engine::power_on(false);
+    registers_read(state);
+    echo(state);
+    banks(state);
+    extra_rows(state);
+    pointers(state);
+    declined(state);
     say::number(b"estimate of 00: ", estimate::estimate(0x00) as u32);
     say::number(b"estimate of FF: ", estimate::estimate(0xFF) as u32);
 }
