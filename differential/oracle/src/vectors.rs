@@ -298,11 +298,37 @@ pub fn write(given: &[String], usage: &str) {
     out.flush().unwrap();
 }
 
-/// What tells a bus call apart besides: the slices' lengths, the set-up cell and the slices of its changed
-/// bytes, so that stores, deposits and each wrong length are selected.
+/// The part of the map that a byte is read from: it changes with the source's upper four bits.
+fn source_part(source: u16) -> u8 {
+    match source >> 12 {
+        0x0..=0x7 => 0,
+        0x8 | 0x9 => 1,
+        0xA | 0xB => 2,
+        0xC => 3,
+        0xD => 4,
+        _ => 5,
+    }
+}
+
+/// The phase of a contended call that moves something, and 4 of others.
+fn phase(bytes: &[u8; RECORD]) -> u8 {
+    let edge = |at: usize| u64::from_le_bytes(bytes[at..at + 8].try_into().unwrap());
+    let apart = edge(32 + 10).wrapping_sub(edge(8)).wrapping_sub(2);
+    if bytes[32 + 40] == 1 && bytes[281] > 0 { (apart / 2 % 4) as u8 } else { 4 }
+}
+
+/// What tells a bus call apart besides: the slices' lengths, the set-up cell, the slices of its changed bytes,
+/// the part that its first byte came from and the phase, so that each wrong length, each part and each phase
+/// with its deposit are selected.
 fn bus_sort(bytes: &[u8; RECORD]) -> Vec<u8> {
+    if bytes[0] != kind::BUS {
+        return Vec::new();
+    }
     let places = (16..32).chain([282, 560, 564, 568, 572]);
-    if bytes[0] == kind::BUS { places.map(|at| bytes[at]).collect() } else { Vec::new() }
+    let mut sort: Vec<u8> = places.map(|at| bytes[at]).collect();
+    sort.push(source_part(u16::from_le_bytes([bytes[283], bytes[284]])));
+    sort.push(phase(bytes));
+    sort
 }
 
 /// The first vector of each sort among `count`: kind, refusal, answer, and which bytes of the state changed.
