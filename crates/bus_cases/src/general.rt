@@ -48,7 +48,7 @@ pub fn k1() {
     let general = calls::set(engine::power_on(false), 0xFF55, 0x00);
     let half = four_rounds(general, &cartridge, &mut vram, &mut oam);
     let all = four_rounds(half, &cartridge, &mut vram, &mut oam);
-    let after = round(all, &cartridge, &mut vram, &mut oam);
-    end(after, &vram);
+    end(all, &vram);
+    let _none = round(all, &cartridge, &mut vram, &mut oam);
     lent::stored(&vram, &oam);
 }
