@@ -19,7 +19,7 @@ pub enum Record {
     Unknown,
 }
 
-fn edge(bytes: [u8; 16]) -> u64
+pub fn edge(bytes: [u8; 16]) -> u64
     ensures { λ r. ⌜ r ≡ edgeOf bytes ⌝ }
 {
     of_eight(
@@ -34,19 +34,19 @@ fn edge(bytes: [u8; 16]) -> u64
     )
 }
 
-fn address(bytes: [u8; 16]) -> u16
+pub fn address(bytes: [u8; 16]) -> u16
     ensures { λ r. ⌜ r ≡ addressOf bytes ⌝ }
 {
     of_two(bytes[2], bytes[3])
 }
 
-fn elapsed(bytes: [u8; 16]) -> u32
+pub fn elapsed(bytes: [u8; 16]) -> u32
     ensures { λ r. ⌜ r ≡ elapsedOf bytes ⌝ }
 {
     of_four(bytes[8], bytes[9], bytes[10], bytes[11])
 }
 
-fn write_input(bytes: [u8; 16]) -> WriteInput
+pub fn write_input(bytes: [u8; 16]) -> WriteInput
     ensures { λ r. ⌜ r ≡ writeInputOf bytes ⌝ }
 {
     WriteInput {
@@ -55,7 +55,7 @@ fn write_input(bytes: [u8; 16]) -> WriteInput
     }
 }
 
-fn fall_input(bytes: [u8; 16]) -> FallInput
+pub fn fall_input(bytes: [u8; 16]) -> FallInput
     ensures { λ r. ⌜ r ≡ fallInputOf bytes ⌝ }
 {
     let flags = bytes[5];
@@ -70,7 +70,7 @@ fn fall_input(bytes: [u8; 16]) -> FallInput
     }
 }
 
-fn switch_input(bytes: [u8; 16]) -> SwitchInput
+pub fn switch_input(bytes: [u8; 16]) -> SwitchInput
     ensures { λ r. ⌜ r ≡ switchInputOf bytes ⌝ }
 {
     let flags = bytes[5];

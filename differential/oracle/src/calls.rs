@@ -98,12 +98,14 @@ fn mode(number: u8) -> Mode {
 pub struct Oracle {
     cgb: Cgb,
     chassis: Chassis<Cgb>,
+    /// Memory is filled by each call's seed, and what a call changed is listed. Without it memory stays as it is.
+    pub refills: bool,
 }
 
 impl Oracle {
     pub fn new() -> Self {
         std::panic::set_hook(Box::new(|_| {}));
-        Self { cgb: Cgb::default(), chassis: Chassis::new() }
+        Self { cgb: Cgb::default(), chassis: Chassis::new(), refills: true }
     }
 
     /// The state at power-on.
@@ -121,13 +123,38 @@ impl Oracle {
         layout::encode(&self.cgb, &self.chassis.vram_bus.vram)
     }
 
+    /// The whole of memory, as the calls left it: cartridge, WRAM, VRAM, OAM.
+    pub fn memory(&self) -> [Vec<u8>; 4] {
+        let vram = &self.chassis.vram_bus.vram;
+        let at = |i: usize| vram.bank((i / 0x2000) as u8).read(VramAddress((i % 0x2000) as u16));
+        [
+            self.chassis.cartridge.clone(),
+            self.cgb.wram.to_vec(),
+            (0..memory::VRAM).map(at).collect(),
+            self.chassis.oam.to_vec(),
+        ]
+    }
+
+    pub fn set_memory(&mut self, cartridge: &[u8], wram: &[u8], vram: &[u8], oam: &[u8]) {
+        self.chassis.cartridge.copy_from_slice(cartridge);
+        self.cgb.wram.copy_from_slice(wram);
+        self.chassis.vram_bus.vram.restore_image(vram);
+        self.chassis.oam.copy_from_slice(oam);
+    }
+
     fn fill_wram(&mut self, seed: u8) {
+        if !self.refills {
+            return;
+        }
         for i in 0..memory::WRAM {
             self.cgb.wram[i] = filled(1, seed, i);
         }
     }
 
     fn fill_bus(&mut self, seed: u8) {
+        if !self.refills {
+            return;
+        }
         for i in 0..memory::CARTRIDGE {
             self.chassis.cartridge[i] = filled(0, seed, i);
         }
@@ -139,6 +166,9 @@ impl Oracle {
     }
 
     fn changed_wram(&self, seed: u8) -> Vec<Change> {
+        if !self.refills {
+            return Vec::new();
+        }
         let differs = |i: &usize| self.cgb.wram[*i] != filled(1, seed, *i);
         (0..memory::WRAM)
             .filter(differs)
@@ -147,6 +177,9 @@ impl Oracle {
     }
 
     fn changed_bus(&self, seed: u8) -> Vec<Change> {
+        if !self.refills {
+            return Vec::new();
+        }
         let vram = &self.chassis.vram_bus.vram;
         let at = |i: usize| vram.bank((i / 0x2000) as u8).read(VramAddress((i % 0x2000) as u16));
         let mut changes = Vec::new();

@@ -5,11 +5,14 @@
 //!     MISSINGNO_SRC=.. cargo run --release -- vectors SEED COUNT [KINDS] > FILE
 //!     MISSINGNO_SRC=.. cargo run --release -- select SEED COUNT [KINDS] > FILE
 //!     MISSINGNO_SRC=.. cargo run --release -- cases > FILE
+//!     MISSINGNO_SRC=.. PORT_LIB=.. cargo run --release -- compare SEED COUNT [rising]
 //!
 //! The originals name `crate::Cgb`, `crate::vram_dma` and so on, so they stand at this crate's root.
 
 mod calls;
 mod cases;
+#[cfg(port)]
+mod compare;
 mod layout;
 mod memory;
 mod random;
@@ -60,11 +63,18 @@ impl missingno_gb::Model for Cgb {
 
 fn main() {
     let words: Vec<String> = std::env::args().skip(1).collect();
-    let usage = "usage: oracle vectors|select SEED COUNT [KIND,KIND,..] | cases";
+    let usage = "usage: oracle vectors|select SEED COUNT [KIND,KIND,..] | cases | compare SEED COUNT [rising]";
     match words.first().map(String::as_str) {
         Some("vectors") => vectors::write(&words[1..], usage),
         Some("select") => vectors::select(&words[1..], usage),
         Some("cases") => cases::write(&mut std::io::stdout().lock()),
+        #[cfg(port)]
+        Some("compare") => compare::run(&words[1..], usage),
+        #[cfg(not(port))]
+        Some("compare") => {
+            eprintln!("compare: built without the port's library: set PORT_LIB to the folder of libc_api.a and build again");
+            std::process::exit(2);
+        }
         _ => {
             eprintln!("{usage}");
             std::process::exit(2);

@@ -40,7 +40,7 @@ fn address(r: &mut Random) -> u16 {
 }
 
 /// An arbitrary call of one of the kinds; its slices are of the right lengths but for a few.
-fn call(r: &mut Random, kinds: &[u8]) -> Call {
+pub fn call(r: &mut Random, kinds: &[u8]) -> Call {
     let mut c = Call::new(r.pick(kinds));
     c.record[1] = r.next() as u8;
     match c.record[0] {
@@ -81,7 +81,7 @@ fn call(r: &mut Random, kinds: &[u8]) -> Call {
 }
 
 /// A call that drives a transfer: what a console does, with something else now and then.
-fn likely(r: &mut Random, kinds: &[u8], step: u64, phase: &mut u8) -> Call {
+pub fn likely(r: &mut Random, kinds: &[u8], step: u64, phase: &mut u8) -> Call {
     if r.one_in(4) {
         return call(r, kinds);
     }
@@ -147,7 +147,7 @@ fn small(r: &mut Random, limit: u64) -> u8 {
 }
 
 /// An arbitrary state: every field anything of its type, refusal 7's six tests passed but once in 40.
-fn state(r: &mut Random) -> [u8; SIZE] {
+pub fn state(r: &mut Random) -> [u8; SIZE] {
     let mut s = [0u8; SIZE];
     let put = |s: &mut [u8; SIZE], at: usize, bytes: &[u8]| s[at..at + bytes.len()].copy_from_slice(bytes);
     let near = |r: &mut Random| if r.one_in(3) { 0xFFFF - r.below(20) as u16 } else { r.next() as u16 };

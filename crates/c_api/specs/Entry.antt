@@ -1,0 +1,53 @@
+-- The exported entry: "State bytes that no state has get 7, a bad call record 6, nothing is written"; else the call is performed.
+use Prim.Native.Nat.{ℕ}
+use mathlib.Core.Path.{_≡_}
+use mathlib.Core.Bool.{Bool, not, cond}
+use mathlib.Core.List.{List}
+use lib.Dec.{eqb}
+use Rattle.codec.specs.Codec.{encodeOf, decodeOf}
+use Rattle.console.specs.PowerOn.{powerOnOf}
+use Rattle.console.specs.declared.Cgb.{Cgb}
+use Rattle.perform.specs.Perform.{performOf, wramAfter, vramAfter, oamAfter}
+use Rattle.c_api.specs.Answer.{answerBytes}
+use Rattle.c_api.specs.Record.{codedOf}
+use Rattle.c_api.specs.declared.record.Coded.{Coded}
+use Rattle.c_api.specs.declared.record.Coded.the-variants.{Call, Unknown}
+
+unfoldable pub poweredOn : ℕ → List ℕ
+poweredOn compat = encodeOf (powerOnOf (not (eqb compat 0)))
+
+-- what is left in the caller's bytes
+pub record Left : Type 0 where
+  pub result : ℕ
+  pub state : List ℕ
+  pub answer : List ℕ
+  pub wram : List ℕ
+  pub vram : List ℕ
+  pub oam : List ℕ
+
+-- a record's call at a state, or 6 and nothing written
+unfoldable pub calledOf : Cgb → Coded → List ℕ → List ℕ → List ℕ → List ℕ → List ℕ → List ℕ → Left
+calledOf s (Call c) state answer cartridge wram vram oam =
+    let p = performOf s c cartridge wram vram oam in
+    record {
+      result = p .told .refusal;
+      state = encodeOf (p .state);
+      answer = answerBytes p;
+      wram = wramAfter s c wram;
+      vram = vramAfter s c cartridge wram vram oam;
+      oam = oamAfter s c cartridge wram vram oam;
+    }
+calledOf s Unknown state answer cartridge wram vram oam =
+    record { result = 6; state = state; answer = answer; wram = wram; vram = vram; oam = oam }
+
+-- 7 first
+unfoldable pub enteredOf : List ℕ → List ℕ → List ℕ → List ℕ → List ℕ → List ℕ → List ℕ → Left
+enteredOf state call answer cartridge wram vram oam =
+    cond (decodeOf state .valid) (calledOf (decodeOf state .state) (codedOf call) state answer cartridge wram vram oam)
+    (record { result = 7; state = state; answer = answer; wram = wram; vram = vram; oam = oam })
+
+-- the whole outcome
+pub record Entered (state call answer cartridge wram vram oam : List ℕ) (r : ℕ) (lastState lastAnswer lastWram lastVram lastOam : List ℕ) : Type 0 where
+  pub all :
+      record { result = r; state = lastState; answer = lastAnswer; wram = lastWram; vram = lastVram; oam = lastOam } ≡
+      enteredOf state call answer cartridge wram vram oam

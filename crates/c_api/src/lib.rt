@@ -1,0 +1,54 @@
+// The model for programs in other languages: the state as its 248 bytes, a call as a record of 16, an
+// answer as a record of 24, slices as pointer and length (include/cgb_vram_dma.h has every layout).
+pub mod answer;
+pub mod record;
+
+ghost use mathlib.Core.Path.{_≡_};
+ghost use Rattle.c_api.specs.Entry.{Entered, poweredOn};
+use console::refusal;
+use record::Coded;
+
+// Document 01's 6, which no call of the engine gives.
+pub const UNKNOWN_RECORD: u8 = 6;
+
+// The state at power-on; compat if not 0.
+#[no_mangle]
+pub extern "C" fn cgb_power_on(state: &mut [u8; 248], compat: u8)
+    ensures { λ _. ⌜ now (state .exit) ≡ poweredOn compat ⌝ }
+{
+    let on = engine::power_on(compat != 0);
+    *state = codec::encode(on);
+}
+
+// One call. The result is the refusal, or 0. State bytes that no state has get 7 and a record of no call
+// gets 6: then nothing is written.
+#[no_mangle]
+pub extern "C" fn cgb_perform(
+    state: &mut [u8; 248],
+    call: &[u8; 16],
+    answer: &mut [u8; 24],
+    cartridge: &[u8],
+    wram: &mut [u8],
+    vram: &mut [u8],
+    oam: &mut [u8],
+) -> u8
+    ensures { λ r. ⌜ Entered (now (state .entry)) (now (call .entry)) (now (answer .entry)) (now (cartridge .entry))
+        (now (wram .entry)) (now (vram .entry)) (now (oam .entry))
+        r (now (state .exit)) (now (answer .exit)) (now (wram .exit)) (now (vram .exit)) (now (oam .exit)) ⌝ }
+{
+    let before = codec::decode(*state);
+    let unreadable = !before.valid;
+    if unreadable {
+        return refusal::STATE;
+    }
+    let coded = record::decode(*call);
+    let Coded::Call(known) = coded else {
+        return UNKNOWN_RECORD;
+    };
+    let given = before.state;
+    let done = perform::perform(given, known, cartridge, wram, vram, oam);
+    let after = done.state;
+    *answer = answer::encode(done);
+    *state = codec::encode(after);
+    done.told.refusal
+}

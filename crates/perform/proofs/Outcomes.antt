@@ -1,0 +1,37 @@
+-- What a call's outcome is, from what the part for it gave. Assumes nothing.
+use Prim.Native.Nat.{ℕ}
+use mathlib.Core.Path.{_≡_, refl, sym, subst}
+use mathlib.Core.List.{List}
+use Rattle.console.specs.declared.Cgb.{Cgb}
+use Rattle.bus.specs.declared.commit.BusInput.{BusInput}
+use Rattle.registers.specs.declared.WriteInput.{WriteInput}
+use Rattle.perform.specs.Perform.{plainOf, readOf, Wrote, Bused, performOf, wramAfter, vramAfter, oamAfter, Performs}
+use Rattle.perform.specs.declared.call.Call.{Call}
+use Rattle.perform.specs.declared.call.Call.the-variants.{Write, Read, Bus, Plain}
+use Rattle.perform.specs.declared.call.PlainCall.{PlainCall}
+use Rattle.perform.specs.declared.touch.Performed.{Performed}
+
+module _ (s : Cgb) (call : Call) (cartridge wram vram oam : List ℕ) (r : Performed) where
+  as-known :
+      (c : Call) (w v o : List ℕ) → call ≡ c → Performs s c cartridge wram vram oam r w v o → Performs s call cartridge wram vram oam r w v o
+  as-known c w v o is p = subst (λ (x : Call). Performs s x cartridge wram vram oam r w v o) (sym is) p
+
+  pub performs-write :
+      (a : ℕ) (w : WriteInput) (last : List ℕ) → call ≡ Write a w → Wrote s w a wram r last →
+      Performs s call cartridge wram vram oam r last vram oam
+  unfolding performOf wramAfter vramAfter oamAfter
+  performs-write a w last is p = as-known (Write a w) last vram oam is (record { result = p .result; work = p .memory; stored = refl; deposit = refl })
+
+  pub performs-read : (a : ℕ) → call ≡ Read a → r ≡ readOf s wram a → Performs s call cartridge wram vram oam r wram vram oam
+  unfolding performOf wramAfter vramAfter oamAfter
+  performs-read a is p = as-known (Read a) wram vram oam is (record { result = p; work = refl; stored = refl; deposit = refl })
+
+  pub performs-bus :
+      (i : BusInput) (v o : List ℕ) → call ≡ Bus i → Bused s i cartridge wram vram oam r v o →
+      Performs s call cartridge wram vram oam r wram v o
+  unfolding performOf wramAfter vramAfter oamAfter
+  performs-bus i v o is p = as-known (Bus i) wram v o is (record { result = p .result; work = refl; stored = p .stored; deposit = p .deposit })
+
+  pub performs-plain : (p : PlainCall) → call ≡ Plain p → r ≡ plainOf s p → Performs s call cartridge wram vram oam r wram vram oam
+  unfolding performOf wramAfter vramAfter oamAfter
+  performs-plain p is e = as-known (Plain p) wram vram oam is (record { result = e; work = refl; stored = refl; deposit = refl })

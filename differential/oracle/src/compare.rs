@@ -1,0 +1,252 @@
+//! The run beside the original: each call is given to the original and to the port, which is linked as its exported
+//! entry, and answer, whole state and all of memory are compared after it. Half of the lists start at power-on, half of
+//! the calls at arbitrary states. A refusal is checked for its number and for state and memory as before.
+use crate::calls::{Call, Oracle, kind};
+use crate::layout::SIZE;
+use crate::memory;
+use crate::random::Random;
+use crate::vectors;
+
+unsafe extern "C" {
+    fn cgb_power_on(state: *mut u8, compat: u8);
+    #[allow(clippy::too_many_arguments)]
+    fn cgb_perform(
+        state: *mut u8,
+        call: *const u8,
+        answer: *mut u8,
+        cartridge: *const u8,
+        cartridge_length: usize,
+        wram: *mut u8,
+        wram_length: usize,
+        vram: *mut u8,
+        vram_length: usize,
+        oam: *mut u8,
+        oam_length: usize,
+    ) -> u8;
+}
+
+const NAMES: [&str; 27] = [
+    "", "write", "fall", "next pair", "switch", "LCD off", "escape drain", "blackout", "read", "bus", "arbitration",
+    "write conflict", "wake intake", "instruction retired", "tally", "status", "claim", "park", "request standing",
+    "holds CPU", "seizes bus", "switch in progress", "divider active", "double speed", "steps per dot", "WRAM bank",
+    "SVBK",
+];
+
+/// The port's memory, each slice with a byte to spare for a length that is one long.
+struct Port {
+    memory: [Vec<u8>; 4],
+}
+
+const LENGTHS: [usize; 4] = [memory::CARTRIDGE, memory::WRAM, memory::VRAM, memory::OAM];
+
+impl Port {
+    fn new(r: &mut Random) -> Self {
+        Self { memory: LENGTHS.map(|n| (0..=n).map(|_| r.next() as u8).collect()) }
+    }
+    fn right(&self, which: usize) -> &[u8] {
+        &self.memory[which][..LENGTHS[which]]
+    }
+    fn power_on(&self, compat: bool) -> [u8; SIZE] {
+        let mut state = [0; SIZE];
+        unsafe { cgb_power_on(state.as_mut_ptr(), compat as u8) };
+        state
+    }
+    /// The state after and the answer's record.
+    fn perform(&mut self, call: &Call, before: &[u8; SIZE]) -> ([u8; SIZE], [u8; 24]) {
+        let mut state = *before;
+        let mut answer = [0u8; 24];
+        let [cartridge, wram, vram, oam] = &mut self.memory;
+        let n = call.lengths.map(|n| n as usize);
+        let result = unsafe {
+            cgb_perform(
+                state.as_mut_ptr(),
+                call.record.as_ptr(),
+                answer.as_mut_ptr(),
+                cartridge.as_ptr(),
+                n[0],
+                wram.as_mut_ptr(),
+                n[1],
+                vram.as_mut_ptr(),
+                n[2],
+                oam.as_mut_ptr(),
+                n[3],
+            )
+        };
+        assert_eq!(result, answer[0]);
+        (state, answer)
+    }
+}
+
+/// The original's answer in the port's layout.
+fn expected(which: u8, a: &[u8; 32]) -> [u8; 24] {
+    let mut out = [0u8; 24];
+    out[0] = a[0];
+    if a[0] != 0 {
+        return out;
+    }
+    let word = |at: usize| u16::from_le_bytes([a[at], a[at + 1]]);
+    let mut values = [0u16; 4];
+    match which {
+        kind::TALLY => values = [word(2), word(4), word(6), a[1] as u16],
+        kind::FALL | kind::CLAIM => values = [a[1] as u16, a[2] as u16, 0, 0],
+        kind::BUS => {
+            values = [a[1] as u16, a[2] as u16, 0, 0];
+            for k in 0..2 {
+                out[10 + 4 * k..14 + 4 * k].copy_from_slice(&a[3 + 5 * k..7 + 5 * k]);
+                out[18 + k] = a[7 + 5 * k];
+            }
+        }
+        _ => values = [a[1] as u16, word(2), word(4), word(6)],
+    }
+    for (k, v) in values.iter().enumerate() {
+        out[2 + 2 * k..4 + 2 * k].copy_from_slice(&v.to_le_bytes());
+    }
+    out
+}
+
+#[derive(Default)]
+struct Report {
+    calls: [u64; 27],
+    refusals: [[u64; 15]; 27],
+    answers: [[u64; 3]; 27],
+    deposits: u64,
+    differ: u64,
+}
+
+impl Report {
+    fn print(&self, seed: u64) {
+        let all: u64 = self.calls.iter().sum();
+        println!("seed {seed}: {all} calls, {} differ", self.differ);
+        println!("{:<20} {:>12}  first value 0, 1, 2 or more; refusals", "kind", "calls");
+        for k in 1..27 {
+            let answers: Vec<String> = self.answers[k].iter().map(u64::to_string).collect();
+            let refused: Vec<String> = (1..15)
+                .filter(|&n| self.refusals[k][n] > 0)
+                .map(|n| format!("{n}: {}", self.refusals[k][n]))
+                .collect();
+            println!("{:<20} {:>12}  {}; {}", NAMES[k], self.calls[k], answers.join(", "), refused.join(", "));
+        }
+        println!("deposits in OAM {}", self.deposits);
+    }
+}
+
+struct Run {
+    oracle: Oracle,
+    port: Port,
+    report: Report,
+    /// Edges never fall (document 02, A9): the last one that was given.
+    rising: Option<u64>,
+}
+
+impl Run {
+    fn synchronise(&mut self) {
+        self.oracle.refills = false;
+        self.oracle.set_memory(self.port.right(0), self.port.right(1), self.port.right(2), self.port.right(3));
+    }
+
+    fn same_memory(&self) -> bool {
+        let original = self.oracle.memory();
+        (0..4).all(|k| original[k] == self.port.right(k))
+    }
+
+    fn raise(&mut self, call: &mut Call) {
+        if let Some(last) = self.rising
+            && matches!(call.record[0], kind::FALL | kind::SWITCH)
+        {
+            let edge = last.saturating_add(call.edge() % 8);
+            call.record[8..16].copy_from_slice(&edge.to_le_bytes());
+            self.rising = Some(edge);
+        }
+    }
+
+    /// One call on both sides; the state after.
+    fn step(&mut self, mut call: Call, before: &[u8; SIZE]) -> [u8; SIZE] {
+        self.raise(&mut call);
+        let which = call.record[0] as usize;
+        let spare: Vec<u8> = (0..4).map(|k| self.port.memory[k][LENGTHS[k]]).collect();
+        let outcome = self.oracle.perform(&call, before);
+        if outcome.answer[0] == 14 {
+            // An overflow is a panic of the original, after which it starts anew.
+            self.synchronise();
+        }
+        let (state, answer) = self.port.perform(&call, before);
+        let mut same = state == outcome.state && answer == expected(call.record[0], &outcome.answer);
+        same &= (0..4).all(|k| self.port.memory[k][LENGTHS[k]] == spare[k]);
+        if matches!(call.record[0], kind::WRITE | kind::BUS) {
+            same &= self.same_memory();
+        }
+        if !same {
+            if self.report.differ < 20 {
+                println!("differs: {call:?}\n  before {before:?}\n  original {:?}\n  port {answer:?}", outcome.answer);
+            }
+            self.report.differ += 1;
+            self.synchronise();
+        }
+        self.report.calls[which] += 1;
+        self.report.refusals[which][answer[0] as usize] += 1;
+        if answer[0] == 0 {
+            self.report.answers[which][answer[2].min(2) as usize] += 1;
+        }
+        if call.record[0] == kind::BUS && answer[0] == 0 && answer[2] > 0 && before[40] == 1 {
+            self.report.deposits += 1;
+        }
+        outcome.state
+    }
+}
+
+/// Half of the write conflicts are asked at the address that the engine writes next.
+fn aim(r: &mut Random, call: &mut Call, before: &[u8; SIZE]) {
+    if call.record[0] == kind::WRITE_CONFLICT && r.flag() {
+        let dest = u16::from_le_bytes([before[2], before[3]]);
+        call.record[2..4].copy_from_slice(&(0x8000 | dest & 0x1FFF).to_le_bytes());
+    }
+}
+
+pub fn run(given: &[String], usage: &str) {
+    let number = |k: usize| given.get(k).and_then(|w| w.parse::<u64>().ok());
+    let rising = given.get(2).map(String::as_str) == Some("rising");
+    let (Some(seed), Some(count)) = (number(0), number(1)) else {
+        eprintln!("{usage}");
+        std::process::exit(2);
+    };
+    let kinds: Vec<u8> = (1..=kind::LAST).collect();
+    let mut r = Random::new(seed);
+    let port = Port::new(&mut r);
+    let mut run = Run { oracle: Oracle::new(), port, report: Report::default(), rising: None };
+    run.synchronise();
+    let mut given = 0;
+    while given < count {
+        let compat = r.one_in(16);
+        let listed = r.flag();
+        let mut now = run.oracle.power_on(compat);
+        assert_eq!(now, run.port.power_on(compat));
+        run.rising = rising.then_some(0);
+        let mut phase = 5;
+        for step in 0..if listed { 64 + r.below(960) } else { 128 } {
+            let mut call = if listed {
+                vectors::likely(&mut r, &kinds, step, &mut phase)
+            } else {
+                vectors::call(&mut r, &kinds)
+            };
+            let before = if listed { now } else { vectors::state(&mut r) };
+            aim(&mut r, &mut call, &before);
+            now = run.step(call, &before);
+            given += 1;
+            if given % 10_000_000 == 0 {
+                eprintln!("{given} of {count}, {} differ", run.report.differ);
+            }
+            if given == count {
+                break;
+            }
+        }
+        if !run.same_memory() {
+            println!("memory differs at the end of a list");
+            run.report.differ += 1;
+            run.synchronise();
+        }
+    }
+    run.report.print(seed);
+    if run.report.differ > 0 {
+        std::process::exit(1);
+    }
+}
