@@ -124,15 +124,10 @@ impl Oracle {
     }
 
     /// The whole of memory, as the calls left it: cartridge, WRAM, VRAM, OAM.
-    pub fn memory(&self) -> [Vec<u8>; 4] {
-        let vram = &self.chassis.vram_bus.vram;
-        let at = |i: usize| vram.bank((i / 0x2000) as u8).read(VramAddress((i % 0x2000) as u16));
-        [
-            self.chassis.cartridge.clone(),
-            self.cgb.wram.to_vec(),
-            (0..memory::VRAM).map(at).collect(),
-            self.chassis.oam.to_vec(),
-        ]
+    /// Cartridge, WRAM, VRAM's banks 0 and 1, OAM.
+    pub fn memory(&self) -> [&[u8]; 5] {
+        let bank = |k: u8| &self.chassis.vram_bus.vram.bank(k).0[..];
+        [&self.chassis.cartridge, &self.cgb.wram[..], bank(0), bank(1), &self.chassis.oam]
     }
 
     pub fn set_memory(&mut self, cartridge: &[u8], wram: &[u8], vram: &[u8], oam: &[u8]) {

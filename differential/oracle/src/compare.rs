@@ -85,7 +85,7 @@ fn expected(which: u8, a: &[u8; 32]) -> [u8; 24] {
         return out;
     }
     let word = |at: usize| u16::from_le_bytes([a[at], a[at + 1]]);
-    let mut values = [0u16; 4];
+    let values;
     match which {
         kind::TALLY => values = [word(2), word(4), word(6), a[1] as u16],
         kind::FALL | kind::CLAIM => values = [a[1] as u16, a[2] as u16, 0, 0],
@@ -145,8 +145,8 @@ impl Run {
     }
 
     fn same_memory(&self) -> bool {
-        let original = self.oracle.memory();
-        (0..4).all(|k| original[k] == self.port.right(k))
+        let (low, high) = self.port.right(2).split_at(memory::VRAM / 2);
+        self.oracle.memory() == [self.port.right(0), self.port.right(1), low, high, self.port.right(3)]
     }
 
     fn raise(&mut self, call: &mut Call) {
@@ -172,9 +172,7 @@ impl Run {
         let (state, answer) = self.port.perform(&call, before);
         let mut same = state == outcome.state && answer == expected(call.record[0], &outcome.answer);
         same &= (0..4).all(|k| self.port.memory[k][LENGTHS[k]] == spare[k]);
-        if matches!(call.record[0], kind::WRITE | kind::BUS) {
-            same &= self.same_memory();
-        }
+        same &= self.same_memory();
         if !same {
             if self.report.differ < 20 {
                 println!("differs: {call:?}\n  before {before:?}\n  original {:?}\n  port {answer:?}", outcome.answer);
@@ -239,13 +237,10 @@ pub fn run(given: &[String], usage: &str) {
                 break;
             }
         }
-        if !run.same_memory() {
-            println!("memory differs at the end of a list");
-            run.report.differ += 1;
-            run.synchronise();
-        }
     }
     run.report.print(seed);
+    #[cfg(branches)]
+    crate::reached::print();
     if run.report.differ > 0 {
         std::process::exit(1);
     }

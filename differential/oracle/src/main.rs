@@ -7,6 +7,8 @@
 //!     MISSINGNO_SRC=.. cargo run --release -- cases > FILE
 //!     MISSINGNO_SRC=.. PORT_LIB=.. cargo run --release -- compare SEED COUNT [rising]
 //!
+//! Built with BRANCHES=1 the run tells at its end which conditions of the original never came out one way.
+//!
 //! The originals name `crate::Cgb`, `crate::vram_dma` and so on, so they stand at this crate's root.
 
 mod calls;
@@ -19,6 +21,11 @@ mod random;
 mod vectors;
 
 include!(concat!(env!("OUT_DIR"), "/originals.rs"));
+
+#[cfg(branches)]
+mod reached;
+#[cfg(branches)]
+pub use reached::probe;
 
 use console_state::CgbConsoleState;
 use vram::CgbVram;
