@@ -1,0 +1,195 @@
+//! The proved model of the Game Boy Color's VRAM DMA engine and speed switch, behind safe calls. Each method is one call of
+//! the library's entry (include/cgb_vram_dma.h has the layouts, docs/LIBRARY.md the table of calls): it gives the answer, or
+//! the refusal, and then neither the state nor lent memory has changed. No call panics.
+
+mod entry;
+mod record;
+
+pub use record::{
+    Arbitration, Claim, CutOutcome, Fall, Moved, Pair, Refusal, Status, SwitchInputs, Tally,
+};
+
+use entry::perform;
+use record::{Answer, Record};
+
+/// The lengths that lent memory must have.
+pub const CARTRIDGE_BYTES: usize = 40_960;
+pub const WRAM_BYTES: usize = 32_768;
+pub const VRAM_BYTES: usize = 16_384;
+pub const OAM_BYTES: usize = 160;
+
+/// What a call lends: a slice of another length than the call wants gets refusal 2.
+pub struct Memory<'a> {
+    /// Addresses below 8000h, then A000h to BFFFh from index 8000h on.
+    pub cartridge: &'a [u8],
+    pub wram: &'a mut [u8],
+    pub vram: &'a mut [u8],
+    pub oam: &'a mut [u8],
+}
+
+/// The state, as its 248 bytes (docs/STATE-LAYOUT.md).
+#[derive(Clone, PartialEq, Eq)]
+pub struct Cgb([u8; Cgb::BYTES]);
+
+impl Cgb {
+    pub const BYTES: usize = 248;
+
+    pub fn power_on(compat: bool) -> Self {
+        Self(entry::power_on(compat))
+    }
+
+    /// Bytes that no state has are taken too: every call on them gets refusal 7.
+    pub fn from_bytes(bytes: [u8; Cgb::BYTES]) -> Self {
+        Self(bytes)
+    }
+
+    pub fn bytes(&self) -> &[u8; Cgb::BYTES] {
+        &self.0
+    }
+
+    /// A call that takes no memory.
+    fn alone(&mut self, record: Record) -> Result<Answer, Refusal> {
+        perform(&mut self.0, record, Memory { cartridge: &[], wram: &mut [], vram: &mut [], oam: &mut [] })
+    }
+
+    /// A question leaves the state as it is.
+    fn ask(&self, record: Record) -> Result<Answer, Refusal> {
+        self.clone().alone(record)
+    }
+
+    fn ask_flag(&self, kind: u8) -> Result<bool, Refusal> {
+        Ok(self.ask(Record::of(kind))?.flag(0))
+    }
+
+    fn ask_byte(&self, kind: u8) -> Result<u8, Refusal> {
+        Ok(self.ask(Record::of(kind))?.byte(0))
+    }
+
+    pub fn write(&mut self, wram: &mut [u8], address: u16, value: u8, lcd_on: bool) -> Result<(), Refusal> {
+        let record = Record::of(1).address(address).small(value).bits(&[lcd_on]);
+        perform(&mut self.0, record, Memory { cartridge: &[], wram, vram: &mut [], oam: &mut [] }).map(|_| ())
+    }
+
+    /// The slice is lent for writing because the entry takes it so; a read leaves it as it is.
+    pub fn read(&self, wram: &mut [u8], address: u16) -> Result<u8, Refusal> {
+        let record = Record::of(8).address(address);
+        let memory = Memory { cartridge: &[], wram, vram: &mut [], oam: &mut [] };
+        Ok(perform(&mut self.0.clone(), record, memory)?.byte(0))
+    }
+
+    /// A falling edge of the CPU's clock. The claim says whether it committed a block, and whether it stands.
+    pub fn vram_dma_fall_edge(&mut self, fall: Fall) -> Result<Claim, Refusal> {
+        let bits = [fall.halted, fall.interrupt_latched, fall.stopped, fall.oam_dma];
+        Ok(self.alone(Record::of(2).small(fall.mode).bits(&bits).edge(fall.edge))?.claim())
+    }
+
+    pub fn next_byte(&mut self) -> Result<Option<Pair>, Refusal> {
+        Ok(self.alone(Record::of(3))?.handed())
+    }
+
+    pub fn attempt_speed_switch(&mut self, inputs: SwitchInputs) -> Result<CutOutcome, Refusal> {
+        let phase = inputs.dot_phase.unwrap_or(4);
+        let record = Record::of(4).small(phase).bits(&[inputs.hold, inputs.interrupt_ready]).edge(inputs.edge);
+        Ok(self.alone(record)?.cut())
+    }
+
+    pub fn vram_dma_lcd_disabled(&mut self) -> Result<(), Refusal> {
+        self.alone(Record::of(5)).map(|_| ())
+    }
+
+    pub fn vram_dma_drain_escape(&mut self) -> Result<Option<Pair>, Refusal> {
+        Ok(self.alone(Record::of(6))?.handed())
+    }
+
+    /// Whether the blackout is over.
+    pub fn drain_speed_switch_blackout(&mut self, elapsed: u32) -> Result<bool, Refusal> {
+        Ok(self.alone(Record::of(7).edge(elapsed.into()))?.flag(0))
+    }
+
+    /// The bus call: moves what this M-cycle's quota allows, if the bus is held or the CPU suspended.
+    pub fn vram_dma_commit_bytes(
+        &mut self,
+        memory: Memory,
+        hold: bool,
+        suspended: bool,
+        oam_edge: u64,
+    ) -> Result<Moved, Refusal> {
+        Ok(perform(&mut self.0, Record::of(9).bits(&[hold, suspended]).edge(oam_edge), memory)?.moved())
+    }
+
+    pub fn vram_dma_arbitrate_oam(
+        &mut self,
+        hold: bool,
+        suspended: bool,
+        oam_transfers: bool,
+    ) -> Result<Arbitration, Refusal> {
+        Ok(self.alone(Record::of(10).bits(&[hold, suspended, oam_transfers]))?.arbitration())
+    }
+
+    /// The source that a CPU write at this address meets, if it meets one.
+    pub fn vram_dma_conflict_source(&self, address: u16) -> Result<Option<u16>, Refusal> {
+        let answer = self.ask(Record::of(11).address(address))?;
+        Ok(answer.flag(0).then(|| answer.word(1)))
+    }
+
+    /// Whether the wake's latency is over.
+    pub fn speed_switch_wake_ready(&mut self, boundary: bool) -> Result<bool, Refusal> {
+        Ok(self.alone(Record::of(12).bits(&[boundary]))?.flag(0))
+    }
+
+    pub fn vram_dma_instruction_retired(&mut self) -> Result<(), Refusal> {
+        self.alone(Record::of(13)).map(|_| ())
+    }
+
+    pub fn tally(&self) -> Result<Tally, Refusal> {
+        Ok(self.ask(Record::of(14))?.tally())
+    }
+
+    pub fn vram_dma_status(&self) -> Result<Status, Refusal> {
+        Ok(self.ask(Record::of(15))?.status())
+    }
+
+    pub fn vram_dma_claim(&self) -> Result<Claim, Refusal> {
+        Ok(self.ask(Record::of(16))?.claim())
+    }
+
+    pub fn vram_dma_park_waits_for_fetch(&self) -> Result<bool, Refusal> {
+        self.ask_flag(17)
+    }
+
+    pub fn vram_dma_request_standing(&self) -> Result<bool, Refusal> {
+        self.ask_flag(18)
+    }
+
+    pub fn vram_dma_holds_cpu(&self) -> Result<bool, Refusal> {
+        self.ask_flag(19)
+    }
+
+    pub fn vram_dma_seizes_bus(&self) -> Result<bool, Refusal> {
+        self.ask_flag(20)
+    }
+
+    pub fn speed_switch_in_progress(&self) -> Result<bool, Refusal> {
+        self.ask_flag(21)
+    }
+
+    pub fn speed_switch_divider_active(&self) -> Result<bool, Refusal> {
+        self.ask_flag(22)
+    }
+
+    pub fn double_speed(&self) -> Result<bool, Refusal> {
+        self.ask_flag(23)
+    }
+
+    pub fn cpu_steps_per_dot(&self) -> Result<u8, Refusal> {
+        self.ask_byte(24)
+    }
+
+    pub fn wram_bank(&self) -> Result<u8, Refusal> {
+        self.ask_byte(25)
+    }
+
+    pub fn svbk_register(&self) -> Result<u8, Refusal> {
+        self.ask_byte(26)
+    }
+}

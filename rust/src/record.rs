@@ -1,0 +1,212 @@
+//! A call's record, an answer's record (include/cgb_vram_dma.h) and what they stand for.
+
+/// Document 01's numbers.
+#[derive(Clone, Copy, Debug, PartialEq, Eq)]
+pub enum Refusal {
+    ModeAbove3 = 1,
+    SliceLength = 2,
+    DotPhaseAbove4 = 3,
+    AddressNotInMap = 4,
+    SwitchUnderHold = 5,
+    NoCall = 6,
+    NoState = 7,
+    BlackoutRunning = 11,
+    SpeedNotArmed = 12,
+    BlockReady = 13,
+    GrantedFull = 14,
+}
+
+impl Refusal {
+    const ALL: [Self; 11] = [
+        Self::ModeAbove3,
+        Self::SliceLength,
+        Self::DotPhaseAbove4,
+        Self::AddressNotInMap,
+        Self::SwitchUnderHold,
+        Self::NoCall,
+        Self::NoState,
+        Self::BlackoutRunning,
+        Self::SpeedNotArmed,
+        Self::BlockReady,
+        Self::GrantedFull,
+    ];
+
+    /// The library gives 0 or one of these numbers.
+    pub(crate) fn of(number: u8) -> Option<Self> {
+        Self::ALL.into_iter().find(|r| *r as u8 == number)
+    }
+}
+
+impl std::fmt::Display for Refusal {
+    fn fmt(&self, f: &mut std::fmt::Formatter) -> std::fmt::Result {
+        write!(f, "refused with {}: {self:?}", *self as u8)
+    }
+}
+
+impl std::error::Error for Refusal {}
+
+/// A byte's way: where it is read and where it lands.
+#[derive(Clone, Copy, Debug, PartialEq, Eq)]
+pub struct Pair {
+    pub source: u16,
+    pub destination: u16,
+}
+
+#[derive(Clone, Copy, Debug, Default)]
+pub struct Fall {
+    /// 0 is HBlank.
+    pub mode: u8,
+    pub halted: bool,
+    pub interrupt_latched: bool,
+    pub stopped: bool,
+    /// OAM DMA owns a bus.
+    pub oam_dma: bool,
+    /// The master clock's edge.
+    pub edge: u64,
+}
+
+#[derive(Clone, Copy, Debug, Default)]
+pub struct SwitchInputs {
+    /// 0 to 3.
+    pub dot_phase: Option<u8>,
+    pub hold: bool,
+    pub interrupt_ready: bool,
+    pub edge: u64,
+}
+
+#[derive(Clone, Copy, Debug, PartialEq, Eq)]
+pub struct Claim {
+    pub committed: bool,
+    pub standing: bool,
+}
+
+/// What a switch did to a latched block.
+#[derive(Clone, Copy, Debug, PartialEq, Eq)]
+pub enum CutOutcome {
+    None,
+    Discarded,
+    Cut,
+}
+
+#[derive(Clone, Copy, Debug, PartialEq, Eq)]
+pub enum Arbitration {
+    Clear,
+    Contended,
+    Stall,
+}
+
+#[derive(Clone, Copy, Debug, PartialEq, Eq)]
+pub struct Tally {
+    pub source: u16,
+    pub destination: u16,
+    pub left: u16,
+    pub escape_owed: bool,
+}
+
+#[derive(Clone, Copy, Debug, PartialEq, Eq)]
+pub enum Status {
+    Idle,
+    General { left: u16 },
+    HBlank { left: u16, source: u16, destination: u16 },
+}
+
+/// What a bus call moved, in order, each pair with its byte.
+#[derive(Clone, Copy, Debug, PartialEq, Eq)]
+pub struct Moved {
+    pub pairs: [Option<(Pair, u8)>; 2],
+    pub set_up_cell: bool,
+}
+
+pub(crate) struct Record([u8; 16]);
+
+impl Record {
+    pub fn of(kind: u8) -> Self {
+        let mut bytes = [0; 16];
+        bytes[0] = kind;
+        Self(bytes)
+    }
+    pub fn address(mut self, address: u16) -> Self {
+        self.0[2..4].copy_from_slice(&address.to_le_bytes());
+        self
+    }
+    pub fn small(mut self, value: u8) -> Self {
+        self.0[4] = value;
+        self
+    }
+    pub fn bits(mut self, bits: &[bool]) -> Self {
+        self.0[5] = bits.iter().rev().fold(0, |all, bit| all << 1 | *bit as u8);
+        self
+    }
+    pub fn edge(mut self, edge: u64) -> Self {
+        self.0[8..].copy_from_slice(&edge.to_le_bytes());
+        self
+    }
+    pub fn bytes(&self) -> &[u8; 16] {
+        &self.0
+    }
+}
+
+pub(crate) struct Answer([u8; Answer::BYTES]);
+
+impl Answer {
+    pub const BYTES: usize = 24;
+
+    pub fn new(bytes: [u8; Answer::BYTES]) -> Self {
+        Self(bytes)
+    }
+    fn at(&self, at: usize) -> u16 {
+        u16::from_le_bytes([self.0[at], self.0[at + 1]])
+    }
+    pub fn word(&self, k: usize) -> u16 {
+        self.at(2 + 2 * k)
+    }
+    pub fn flag(&self, k: usize) -> bool {
+        self.word(k) != 0
+    }
+    pub fn byte(&self, k: usize) -> u8 {
+        self.0[2 + 2 * k]
+    }
+    pub fn claim(&self) -> Claim {
+        Claim { committed: self.flag(0), standing: self.flag(1) }
+    }
+    pub fn handed(&self) -> Option<Pair> {
+        self.flag(0).then(|| Pair { source: self.word(1), destination: self.word(2) })
+    }
+    pub fn cut(&self) -> CutOutcome {
+        match self.word(0) {
+            0 => CutOutcome::None,
+            1 => CutOutcome::Discarded,
+            _ => CutOutcome::Cut,
+        }
+    }
+    pub fn arbitration(&self) -> Arbitration {
+        match self.word(0) {
+            0 => Arbitration::Clear,
+            1 => Arbitration::Contended,
+            _ => Arbitration::Stall,
+        }
+    }
+    pub fn tally(&self) -> Tally {
+        Tally {
+            source: self.word(0),
+            destination: self.word(1),
+            left: self.word(2),
+            escape_owed: self.flag(3),
+        }
+    }
+    pub fn status(&self) -> Status {
+        match self.word(0) {
+            0 => Status::Idle,
+            1 => Status::General { left: self.word(1) },
+            _ => Status::HBlank { left: self.word(1), source: self.word(2), destination: self.word(3) },
+        }
+    }
+    pub fn moved(&self) -> Moved {
+        let pair = |k: usize| {
+            let at = 10 + 4 * k;
+            let pair = Pair { source: self.at(at), destination: self.at(at + 2) };
+            (k < self.word(0).into()).then_some((pair, self.0[18 + k]))
+        };
+        Moved { pairs: [pair(0), pair(1)], set_up_cell: self.flag(1) }
+    }
+}

@@ -1,0 +1,162 @@
+//! Document 01's cases by its numbers, through the wrapper: what it holds by hand of the layouts must be the library's.
+use cgb_vram_dma::{
+    CARTRIDGE_BYTES, Cgb, CutOutcome, Fall, Memory, Moved, OAM_BYTES, Pair, Refusal, Status, SwitchInputs, VRAM_BYTES,
+    WRAM_BYTES,
+};
+
+struct Bench {
+    cgb: Cgb,
+    cartridge: Vec<u8>,
+    wram: Vec<u8>,
+    vram: Vec<u8>,
+    oam: Vec<u8>,
+}
+
+impl Bench {
+    fn new(compat: bool) -> Self {
+        Self {
+            cgb: Cgb::power_on(compat),
+            cartridge: (0..CARTRIDGE_BYTES).map(|i| (i * 7 + 5) as u8).collect(),
+            wram: vec![0; WRAM_BYTES],
+            vram: vec![0; VRAM_BYTES],
+            oam: vec![0; OAM_BYTES],
+        }
+    }
+    fn write(&mut self, address: u16, value: u8) {
+        self.cgb.write(&mut self.wram, address, value, true).unwrap();
+    }
+    fn destination(&mut self, address: u16) {
+        self.write(0xFF53, (address >> 8) as u8);
+        self.write(0xFF54, address as u8);
+    }
+    fn ff55(&mut self) -> u8 {
+        self.cgb.read(&mut self.wram, 0xFF55).unwrap()
+    }
+    fn fall(&mut self, mode: u8) {
+        self.cgb.vram_dma_fall_edge(Fall { mode, ..Fall::default() }).unwrap();
+    }
+    fn bus(&mut self) -> Moved {
+        let Self { cgb, cartridge, wram, vram, oam } = self;
+        cgb.vram_dma_commit_bytes(Memory { cartridge, wram, vram, oam }, true, false, 0).unwrap()
+    }
+    /// Falls and held bus calls until nothing is under way.
+    fn run(&mut self) -> Vec<Pair> {
+        let mut pairs = Vec::new();
+        while self.cgb.vram_dma_status().unwrap() != Status::Idle {
+            self.fall(3);
+            pairs.extend(self.bus().pairs.into_iter().flatten().map(|(pair, _)| pair));
+        }
+        pairs
+    }
+    fn switch(&mut self, dot_phase: Option<u8>) -> CutOutcome {
+        self.write(0xFF4D, 0x01);
+        self.cgb.attempt_speed_switch(SwitchInputs { dot_phase, ..SwitchInputs::default() }).unwrap()
+    }
+    /// Whether the blackout lasts exactly this long; it is over then.
+    fn lasts(&mut self, edges: u32) -> bool {
+        let early = self.cgb.clone().drain_speed_switch_blackout(edges - 1).unwrap();
+        let due = self.cgb.drain_speed_switch_blackout(edges).unwrap();
+        !early && due && !self.cgb.speed_switch_in_progress().unwrap()
+    }
+}
+
+#[test]
+fn k1_general() {
+    let mut b = Bench::new(false);
+    b.write(0xFF55, 0x00);
+    assert_eq!(b.cgb.vram_dma_status(), Ok(Status::General { left: 16 }));
+    assert_eq!(b.cgb.vram_dma_holds_cpu(), Ok(true));
+    let expected: Vec<Pair> = (0..16).map(|i| Pair { source: i, destination: 0x8000 + i }).collect();
+    assert_eq!(b.run(), expected);
+    assert_eq!(b.ff55(), 0xFF);
+    assert_eq!(b.vram[..16], b.cartridge[..16]);
+}
+
+#[test]
+fn k2_hblank_and_k6_cut() {
+    for (value, cut) in [(0x80, false), (0x81, true)] {
+        let mut b = Bench::new(false);
+        b.write(0xFF55, value);
+        b.fall(3);
+        b.fall(0);
+        if !cut {
+            assert_eq!(b.ff55(), 0x00);
+        }
+        b.fall(0);
+        if !cut {
+            assert_eq!(b.ff55(), 0xFF);
+        }
+        b.fall(0);
+        let first = b.bus();
+        assert_eq!((first.pairs, first.set_up_cell), ([None, None], true));
+        b.fall(0);
+        let second = b.bus();
+        assert_eq!(second.pairs.into_iter().flatten().count(), 2);
+        assert!(!second.set_up_cell);
+        if cut {
+            assert_eq!(b.switch(None), CutOutcome::Cut);
+            assert_eq!(b.cgb.tally().map(|t| (t.left, t.escape_owed)), Ok((30, true)));
+            b.fall(0);
+            assert_eq!(b.bus().pairs.into_iter().flatten().count(), 1);
+            assert_eq!(b.cgb.tally().map(|t| (t.left, t.escape_owed)), Ok((30, false)));
+            assert_eq!(b.ff55(), 0x80);
+        }
+    }
+}
+
+#[test]
+fn k3_cancel() {
+    let mut b = Bench::new(false);
+    b.write(0xFF55, 0x83);
+    b.write(0xFF55, 0x00);
+    assert_eq!(b.ff55(), 0x80);
+}
+
+#[test]
+fn k4_carry_and_k5_wrap() {
+    let mut b = Bench::new(false);
+    b.destination(0xFFF0);
+    b.write(0xFF55, 0x01);
+    assert_eq!(b.run().len(), 16);
+    let mut b = Bench::new(false);
+    b.destination(0x9FF0);
+    b.write(0xFF55, 0x01);
+    let pairs = b.run();
+    assert_eq!((pairs.len(), pairs[16].destination), (32, 0x8000));
+}
+
+#[test]
+fn k7_blackouts() {
+    let mut b = Bench::new(false);
+    for (phase, double, edges) in [(Some(3), true, 131_077), (None, false, 262_144), (Some(3), true, 131_079)] {
+        b.switch(phase);
+        assert_eq!(b.cgb.double_speed(), Ok(double));
+        assert!(b.lasts(edges), "{edges}");
+    }
+}
+
+#[test]
+fn k10_compat() {
+    let mut b = Bench::new(true);
+    b.write(0xFF55, 0x00);
+    assert_eq!(b.ff55(), 0xFF);
+}
+
+#[test]
+fn refusals_have_the_paper_s_numbers_and_change_nothing() {
+    let mut b = Bench::new(false);
+    let before = b.cgb.clone();
+    let switch = |dot_phase, hold| SwitchInputs { dot_phase, hold, ..SwitchInputs::default() };
+    assert_eq!(b.cgb.vram_dma_fall_edge(Fall { mode: 4, ..Fall::default() }), Err(Refusal::ModeAbove3));
+    for length in [WRAM_BYTES - 1, WRAM_BYTES + 1] {
+        assert_eq!(b.cgb.read(&mut vec![0; length], 0xFF55), Err(Refusal::SliceLength));
+    }
+    assert_eq!(b.cgb.attempt_speed_switch(switch(Some(5), false)), Err(Refusal::DotPhaseAbove4));
+    assert_eq!(b.cgb.read(&mut b.wram, 0xFF68), Err(Refusal::AddressNotInMap));
+    assert_eq!(b.cgb.attempt_speed_switch(switch(None, true)), Err(Refusal::SwitchUnderHold));
+    assert_eq!(b.cgb.attempt_speed_switch(switch(None, false)), Err(Refusal::SpeedNotArmed));
+    assert!(b.cgb == before);
+    b.switch(None);
+    assert_eq!(b.cgb.attempt_speed_switch(switch(None, false)), Err(Refusal::BlackoutRunning));
+    assert_eq!(Cgb::from_bytes([0xFF; Cgb::BYTES]).tally(), Err(Refusal::NoState));
+}
