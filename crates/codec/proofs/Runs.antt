@@ -10,7 +10,7 @@ use lib.ListN.{length, getD, set, drop, drop-of-length-le}
 use lib.Seq.{sets, sets-eq, drop-cons, drop-length}
 use lib.Dec.{eqb}
 use Rattle.codec.specs.Number.{bytesAt}
-use Rattle.codec.specs.Codec.{sameBytes}
+use Rattle.codec.specs.Codec.{sameFrom}
 
 -- the bytes p stored from offset at on into l₀; l is l₀ with the first i stored, and the next goes to offset k
 module _ (l₀ l p : List ℕ) (at k i : ℕ) (left : sets l₀ at p ≡ sets l k (drop i p)) where
@@ -26,13 +26,17 @@ stored-over l p e =
     let h : 0 + length p ≡ length l = omega arith in
     sets-eq p l 0 (omega arith) ∙ ap (λ (n : ℕ). p ++ drop n l) h ∙ ap (λ (z : List ℕ). p ++ z) (drop-length l) ∙ append-nil p
 
--- a and b are compared; so far says whether their first i bytes agree
-module _ (a b : List ℕ) (so-far : Bool) (i : ℕ) (left : sameBytes a b ≡ (so-far && sameBytes (drop i a) (drop i b))) where
-  pub same-more : i < length a → i < length b → sameBytes a b ≡ ((so-far && eqb (getD a i 0) (getD b i 0)) && sameBytes (drop (i + 1) a) (drop (i + 1) b))
-  same-more h k = left ∙ rw (add-one i, drop-cons a i 0 h, drop-cons b i 0 k, and-assoc)
+-- a and b are compared; so far says whether the bytes up to i agree, and whole what they come to with the rest
+pub same-more :
+    (a b : List ℕ) (whole so-far : Bool) (i : ℕ) →
+    whole ≡ (so-far && sameFrom i a b) →
+    i < length a → i < length b → whole ≡ ((so-far && eqb (getD a i 0) (getD b i 0)) && sameFrom (i + 1) a b)
+same-more a b whole so-far i left h k = left ∙ rw (add-one i, drop-cons a i 0 h, drop-cons b i 0 k, and-assoc)
 
-  pub same-all : length a ≤ i → length b ≤ i → so-far ≡ sameBytes a b
-  same-all h k = sym (left ∙ rw (drop-of-length-le a h, drop-of-length-le b k, and-true))
+pub same-all :
+    (a b : List ℕ) (whole so-far : Bool) (i : ℕ) →
+    whole ≡ (so-far && sameFrom i a b) → length a ≤ i → length b ≤ i → so-far ≡ whole
+same-all a b whole so-far i left h k = sym (left ∙ rw (drop-of-length-le a h, drop-of-length-le b k, and-true))
 
 -- the bytes from an offset on, and how many they are
 pub part-byte : (b : List ℕ) (at n i : ℕ) → i < n → getD (bytesAt b at n) i 0 ≡ getD b (at + i) 0

@@ -1,3 +1,4 @@
 pub mod Accepted
 pub mod Says
 pub mod Bused
+mod FallCall

@@ -1,25 +1,32 @@
 -- The fall as a call (document 01, section 2). "Order: 7 first .. a fall 1, 14."
 use Prim.Native.Nat.{ℕ}
-use mathlib.Core.Bool.{cond}
+use mathlib.Core.Bool.{Bool, cond}
 use mathlib.Core.List.{[], _∷_}
-use lib.Dec.{ltb}
+use lib.Dec.{ltb, eqb}
 use Rattle.console.specs.Reached.{unreached}
 use Rattle.console.specs.Refusals.{_⇒_, firstOf, answered}
 use Rattle.console.specs.Set.{withVramDma, withConsoleState, withConsoleVramDmaClaim}
 use Rattle.console.specs.declared.Cgb.{Cgb}
 use Rattle.console.specs.declared.VramDmaClaim.{VramDmaClaim}
-use Rattle.fall_edge.specs.Fall.{fallOf}
+use Rattle.console.specs.declared.vram_dma.VramDma.{VramDma}
+use Rattle.fall_edge.specs.Fall.{fallOf, refusedOf}
 use Rattle.fall_edge.specs.declared.FallInput.{FallInput}
 use Rattle.fall_edge.specs.declared.Fallen.{Fallen}
 use Rattle.engine.specs.Answers.{Said, saying, bitOf, kept}
+use Rattle.engine.specs.declared.answer.ClaimAnswer.{ClaimAnswer}
 use Rattle.engine.specs.declared.answer.ClaimAnswer.the-variants.{Claim, Refused}
 use Rattle.engine.specs.declared.answer.Fell.{Fell}
+use Rattle.engine.specs.declared.fall.Outcome.{Outcome}
 
 abbrev pub fallen : Cgb → FallInput → Fallen
 fallen s i = fallOf i (s .«double_speed») (s .«vram_dma»)
 
+-- the number of a fall that came to f, or 0
+abbrev pub fallNumber : Bool → FallInput → Fallen → ℕ
+fallNumber unreached i f = firstOf ((unreached ⇒ 7) ∷ (ltb 3 (i .mode) ⇒ 1) ∷ (f .refused ⇒ 14) ∷ [])
+
 unfoldable pub fallRefusal : Cgb → FallInput → ℕ
-fallRefusal s i = firstOf ((unreached s ⇒ 7) ∷ (ltb 3 (i .mode) ⇒ 1) ∷ (fallen s i .refused ⇒ 14) ∷ [])
+fallRefusal s i = fallNumber (unreached s) i (fallen s i)
 
 -- the console keeps the claim of the last commit
 abbrev pub keptClaim : VramDmaClaim → VramDmaClaim → VramDmaClaim
@@ -31,13 +38,21 @@ fallenState f s =
     (withConsoleState
     (withConsoleVramDmaClaim (keptClaim (f .claim) (s .«console_state» .«vram_dma_claim»)) (s .«console_state»)) s)
 
+-- the answer with a number, or with the claim where there is none
+abbrev pub claimAnswer : ℕ → VramDmaClaim → ClaimAnswer
+claimAnswer number claim = answered number Refused (Claim (claim .committed) (claim .standing))
+
 unfoldable pub fallCallOf : Cgb → FallInput → Fell
 fallCallOf s i =
     record {
-      answer = answered (fallRefusal s i) Refused (Claim (fallen s i .claim .committed) (fallen s i .claim .standing));
+      answer = claimAnswer (fallRefusal s i) (fallen s i .claim);
       state = kept (fallRefusal s i) s (fallenState (fallen s i) s);
     }
 
 unfoldable pub fallSaid : Cgb → FallInput → Said
 fallSaid s i =
     saying (fallRefusal s i) (bitOf (fallen s i .claim .committed) ∷ bitOf (fallen s i .claim .standing) ∷ [])
+
+-- what the code of the call hands on inside: the number, and the fall, or the engine d as given where it is declined
+abbrev pub outcomeOf : ℕ → VramDma → Fallen → Outcome
+outcomeOf number d f = record { number = number; fallen = cond (eqb number 0) f (refusedOf d) }

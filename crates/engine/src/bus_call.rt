@@ -7,6 +7,7 @@ use bus::commit::Banks;
 use bus::commit::BusInput;
 use console::Cgb;
 use console::refusal;
+use console::same;
 use transfer::pair::BytePair;
 
 fn refused(state: Cgb, number: u8) -> Bussed
@@ -16,7 +17,7 @@ fn refused(state: Cgb, number: u8) -> Bussed
         answer: BusAnswer::Refused(number),
         pairs: [BytePair { source: 0, dest: 0 }; 2],
         bytes: [0u8; 2],
-        state: state,
+        state: same::cgb(state),
     }
 }
 
@@ -52,11 +53,9 @@ pub fn vram_dma_commit_bytes(
         vram: state.vram.selected,
     };
     let run = bus::commit::commit_bytes(state.vram_dma, banks, input, cartridge, wram, vram, oam);
-    let dma = run.dma;
     let pairs = run.pairs;
     let bytes = run.bytes;
-    let mut after = state;
-    after.vram_dma = dma;
+    let after = same::cgb_with(state, run.dma);
     Bussed {
         answer: BusAnswer::Moved {
             count: run.count,

@@ -6,6 +6,7 @@ use crate::answer::Handed;
 use crate::answer::PairAnswer;
 use console::Cgb;
 use console::refusal;
+use console::same;
 use transfer::pair::NextAnswer;
 
 fn handed(answer: NextAnswer) -> PairAnswer
@@ -21,17 +22,16 @@ pub fn next_byte(state: Cgb) -> Handed
     ensures { λ r. ⌜ Answers handedSays (nextPairOf state) (nextPairSaid state) r ⌝ }
 {
     if state.unreached() {
+        let same = same::cgb(state);
         return Handed {
             answer: PairAnswer::Refused(refusal::STATE),
-            state: state,
+            state: same,
         };
     }
     let next = transfer::pair::next_byte(state.vram_dma);
     let found = next.answer;
     let answer = handed(found);
-    let dma = next.dma;
-    let mut after = state;
-    after.vram_dma = dma;
+    let after = same::cgb_with(state, next.dma);
     Handed {
         answer: answer,
         state: after,
@@ -42,17 +42,16 @@ pub fn vram_dma_drain_escape(state: Cgb) -> Handed
     ensures { λ r. ⌜ Answers handedSays (escapeDrainOf state) (escapeDrainSaid state) r ⌝ }
 {
     if state.unreached() {
+        let same = same::cgb(state);
         return Handed {
             answer: PairAnswer::Refused(refusal::STATE),
-            state: state,
+            state: same,
         };
     }
     let drained = transfer::pair::drain_escape(state.vram_dma);
     let found = drained.answer;
     let answer = handed(found);
-    let dma = drained.dma;
-    let mut after = state;
-    after.vram_dma = dma;
+    let after = same::cgb_with(state, drained.dma);
     Handed {
         answer: answer,
         state: after,

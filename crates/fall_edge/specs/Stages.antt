@@ -15,10 +15,10 @@ use Rattle.transfer.specs.Questions.{seizesBus}
 use Rattle.fall_edge.specs.declared.View.{View}
 
 -- ---- step 1: "Inert, not halted, not stopped: `settle_inert`, end"
-abbrev pub inertOf : VramDma → Bool
-inertOf d =
-    eqb (d .cursor .remaining) 0
-    && (eqb (d .block .remaining) 0
+-- no block, no pend or grant, no countdown runs, no halt to unwind
+abbrev pub stillOf : VramDma → Bool
+stillOf d =
+    eqb (d .block .remaining) 0
     && not (activeOf (d .block .«setup_cells»))
     && not (activeOf (d .block .«ready_in»))
     && not (d .block .«arm_ready_probation»)
@@ -28,7 +28,10 @@ inertOf d =
     && not (d .arb .«armed_this_fall»)
     && not (activeOf (d .arb .«halt_wake_blind»))
     && not (activeOf (d .arb .«wake_pend_blind»))
-    && not (activeOf (d .arb .«wake_tenure»)))
+    && not (activeOf (d .arb .«wake_tenure»))
+
+abbrev pub inertOf : VramDma → Bool
+inertOf d = eqb (d .cursor .remaining) 0 && stillOf d
 
 abbrev pub settledBlock : Bool → HblankBlock → HblankBlock
 settledBlock hblank b = withBlockTaken (b .taken && hblank) (withBlockSeizeFalls 0 b)

@@ -2,13 +2,14 @@
 // in document 01's order. Each stage makes anew only the part that it touches.
 mod arb;
 mod block;
-mod same;
 
 ghost use mathlib.Core.Path.{_≡_};
 ghost use Rattle.fall_edge.specs.View.{viewOf, gates};
-ghost use Rattle.fall_edge.specs.Stages.{inertOf, settledOf, observedOf, probationOf, haltLatchOf, gatedOf, blindsOf, commits, commitOf, tenureOf, pendOf, readinessOf, refilledOf, seizureOf};
+ghost use Rattle.fall_edge.specs.Stages.{stillOf, settledOf, observedOf, probationOf, haltLatchOf, gatedOf, blindsOf, commits, commitOf, tenureOf, pendOf, readinessOf, refilledOf, seizureOf};
+ghost use Rattle.fall_edge.specs.QuietFall.{quietOf};
 ghost use Rattle.fall_edge.specs.Fall.{startedOf, servedOf, decidedOf, ranOf, fallOf};
 use console::VramDmaClaim;
+use console::same;
 use console::vram_dma::VramDma;
 
 // What a fall is given.
@@ -74,22 +75,35 @@ impl FallInput {
     }
 }
 
-// Nothing to arbitrate: then the whole fall is `settle_inert`.
-fn inert(d: VramDma) -> bool
-    ensures { λ r. ⌜ r ≡ inertOf d ⌝ }
+// No block, no pend or grant, no countdown runs, no halt to unwind.
+fn still(d: VramDma) -> bool
+    ensures { λ r. ⌜ r ≡ stillOf d ⌝ }
 {
-    (d.cursor.remaining == 0)
-        & ((d.block.remaining == 0)
-            & !(d.block.setup_cells.0 > 0)
-            & !(d.block.ready_in.0 > 0)
-            & !d.block.arm_ready_probation
-            & !d.arb.pend
-            & !d.arb.pend_granted
-            & !d.arb.prev_cpu_halted
-            & !d.arb.armed_this_fall
-            & !(d.arb.halt_wake_blind.0 > 0)
-            & !(d.arb.wake_pend_blind.0 > 0)
-            & !(d.arb.wake_tenure.0 > 0))
+    (d.block.remaining == 0)
+        & !(d.block.setup_cells.0 > 0)
+        & !(d.block.ready_in.0 > 0)
+        & !d.block.arm_ready_probation
+        & !d.arb.pend
+        & !d.arb.pend_granted
+        & !d.arb.prev_cpu_halted
+        & !d.arb.armed_this_fall
+        & !(d.arb.halt_wake_blind.0 > 0)
+        & !(d.arb.wake_pend_blind.0 > 0)
+        & !(d.arb.wake_tenure.0 > 0)
+}
+
+// The fall comes to `settle_inert`: where the engine is inert, and also while bytes are left, with none
+// to move and no block to ask for.
+fn quiet(d: VramDma, input: FallInput) -> bool
+    ensures { λ r. ⌜ r ≡ quietOf input d ⌝ }
+{
+    let c = d.cursor;
+    let mode = c.mode;
+    let general = mode.is_general();
+    let armed = mode.is_hblank();
+    let wants = general | (armed & (input.mode == 0) & !d.block.taken);
+    let still = still(d);
+    ((c.remaining == 0) | !wants) & still & !input.halted & !input.stopped
 }
 
 fn settle_inert(d: VramDma, in_hblank: bool) -> VramDma
@@ -333,7 +347,7 @@ fn decide(given: VramDma, d: VramDma, v: View) -> Fallen
                 committed: false,
                 standing: false,
             },
-            dma: given,
+            dma: same::dma(given),
         };
     }
     let dma = serve(d, v, committing);
@@ -368,8 +382,8 @@ fn run(d: VramDma, v: View, gated: bool) -> Fallen
 pub fn fall_edge(d: VramDma, double_speed: bool, input: FallInput) -> Fallen
     ensures { λ r. ⌜ r ≡ fallOf input «double_speed» d ⌝ }
 {
-    let inert = inert(d) & !input.halted & !input.stopped;
-    if inert {
+    let quiet = quiet(d, input);
+    if quiet {
         let dma = settle_inert(d, input.mode == 0);
         return Fallen {
             refused: false,

@@ -28,6 +28,10 @@ pair-handed (pair.Refused n) s p e = cc
 pub as-known : (s : Cgb) (wram : List ℕ) (e k : Record) (r : Stepped) (last : List ℕ) → k ≡ e → Performed s wram e r last → Performed s wram k r last
 as-known s wram e k r last is p = subst (λ (x : Record). Performed s wram x r last) (sym is) p
 
+-- at a state that was made anew
+pub made-anew : (s t : Cgb) (wram : List ℕ) (e : Record) (r : Stepped) (last : List ℕ) → t ≡ s → Performed t wram e r last → Performed s wram e r last
+made-anew s t wram e r last is p = subst (λ (x : Cgb). Performed x wram e r last) is p
+
 -- a record that leaves work RAM alone
 pub performed :
     (s : Cgb) (wram : List ℕ) (e k : Record) (r : Stepped) → k ≡ e → r ≡ stepOf s (length wram) e → wram ≡ wramOf s wram e →

@@ -3,6 +3,7 @@ ghost use mathlib.Core.Path.{_≡_};
 ghost use Rattle.replay_step.specs.Step.{doneNumber, claimNumber, flagNumber, switchNumber, pairNumber, pairIn, lineOf, pairLineOf, stepOf, Performed};
 use crate::record::Record;
 use console::Cgb;
+use console::same;
 use engine::answer::ClaimAnswer;
 use engine::answer::DoneAnswer;
 use engine::answer::FlagAnswer;
@@ -84,6 +85,7 @@ fn quiet(state: Cgb, refusal: u8) -> Stepped
     ensures { λ r. ⌜ r ≡ lineOf refusal state ⌝ }
 {
     let ff55 = hdma::hdma5::status_byte(state.vram_dma);
+    let same = same::cgb(state);
     Stepped {
         line: Line {
             refusal: refusal,
@@ -93,7 +95,7 @@ fn quiet(state: Cgb, refusal: u8) -> Stepped
             source: 0,
             dest: 0,
         },
-        state: state,
+        state: same,
     }
 }
 
@@ -117,6 +119,7 @@ fn handed(state: Cgb, answer: PairAnswer) -> Stepped
         return quiet(state, refusal);
     };
     let ff55 = hdma::hdma5::status_byte(state.vram_dma);
+    let same = same::cgb(state);
     Stepped {
         line: Line {
             refusal: 0,
@@ -126,7 +129,7 @@ fn handed(state: Cgb, answer: PairAnswer) -> Stepped
             source: pair.source,
             dest: pair.dest,
         },
-        state: state,
+        state: same,
     }
 }
 
@@ -193,18 +196,19 @@ fn blackout(state: Cgb, elapsed: u32) -> Stepped
     quiet(after, flag_number(answer))
 }
 
-// A record at a state. A record of another kind, or a short one, gets 6.
+// A record at a state. A record of another kind, or a short one, gets 6. What is rare gets the state made anew, so that its
+// way of keeping it does not reach the fall.
 pub fn perform(state: Cgb, wram: &mut [u8], kind: Record) -> Stepped
     ensures { λ r. ⌜ Performed state (now (wram .entry)) kind r (now (wram .exit)) ⌝ }
 {
     match kind {
-        Record::Write { address, input } => written(state, wram, address, input),
+        Record::Write { address, input } => written(same::cgb(state), wram, address, input),
         Record::Fall(input) => fell(state, input),
         Record::NextPair => next_pair(state),
-        Record::Switch(input) => switched(state, input),
-        Record::LcdOff => lcd_off(state),
-        Record::EscapeDrain => escape_drain(state),
-        Record::Blackout(elapsed) => blackout(state, elapsed),
+        Record::Switch(input) => switched(same::cgb(state), input),
+        Record::LcdOff => lcd_off(same::cgb(state)),
+        Record::EscapeDrain => escape_drain(same::cgb(state)),
+        Record::Blackout(elapsed) => blackout(same::cgb(state), elapsed),
         Record::Unknown => quiet(state, 6),
     }
 }

@@ -1,6 +1,7 @@
 // The next pair of addresses (vram_dma.rs, `next_byte`, `drain_escape`, `moving`, `refill_quota`).
 ghost use mathlib.Core.Path.{_≡_};
 ghost use Rattle.transfer.specs.Pair.{movingOf, quotaOf, leftAfter, cursorAfter, blockAfter, arbAfter, advancedOf, nextByteOf, drainOf};
+use console::same;
 use console::vram_dma::HaltArbiter;
 use console::vram_dma::HblankBlock;
 use console::vram_dma::OamContention;
@@ -8,6 +9,7 @@ use console::vram_dma::TransferCursor;
 use console::vram_dma::TransferMode;
 use console::vram_dma::VramDma;
 use console::vram_dma::pick_mode;
+use countdown::Countdown;
 use countdown::pick::pick8;
 use countdown::pick::pick16;
 use countdown::step::less_one;
@@ -81,14 +83,12 @@ fn block_after(b: HblankBlock) -> HblankBlock
 {
     let last = b.remaining == 1;
     let remaining = less_one(b.remaining);
-    let setup = b.setup_cells;
-    let ready = b.ready_in;
     HblankBlock {
         remaining: remaining,
         start_edge: b.start_edge,
         taken: b.taken,
-        setup_cells: setup,
-        ready_in: ready,
+        setup_cells: Countdown(b.setup_cells.0),
+        ready_in: Countdown(b.ready_in.0),
         seize_falls: b.seize_falls,
         from_arm: b.from_arm & !last,
         arm_ready_probation: b.arm_ready_probation,
@@ -96,16 +96,29 @@ fn block_after(b: HblankBlock) -> HblankBlock
 }
 
 // last: the pair is the block's last one; ended: nothing is left.
-fn arb_after(mut a: HaltArbiter, last: bool, ended: bool) -> HaltArbiter
+fn arb_after(a: HaltArbiter, last: bool, ended: bool) -> HaltArbiter
     ensures { λ r. ⌜ r ≡ arbAfter last ended a ⌝ }
 {
     let granted = pick8(last, less_one(a.granted_ahead), a.granted_ahead);
     let park = a.park_waits_for_fetch & !last;
     let claim = a.idle_claim & !ended;
-    a.granted_ahead = granted;
-    a.park_waits_for_fetch = park;
-    a.idle_claim = claim;
-    a
+    HaltArbiter {
+        pend: a.pend,
+        pend_from_arm: a.pend_from_arm,
+        armed_this_fall: a.armed_this_fall,
+        halted_falls: a.halted_falls,
+        prev_view_hblank: a.prev_view_hblank,
+        pend_age: a.pend_age,
+        pend_granted: a.pend_granted,
+        wake_tenure: Countdown(a.wake_tenure.0),
+        park_waits_for_fetch: park,
+        idle_claim: claim,
+        halt_wake_blind: Countdown(a.halt_wake_blind.0),
+        prev_cpu_halted: a.prev_cpu_halted,
+        grant_counted: a.grant_counted,
+        wake_pend_blind: Countdown(a.wake_pend_blind.0),
+        granted_ahead: granted,
+    }
 }
 
 fn advance(d: VramDma) -> VramDma
@@ -141,9 +154,10 @@ pub fn next_byte(d: VramDma) -> NextByte
             dma: dma,
         };
     }
+    let same = same::dma(d);
     NextByte {
         answer: NextAnswer::None,
-        dma: d,
+        dma: same,
     }
 }
 
@@ -169,8 +183,9 @@ pub fn drain_escape(d: VramDma) -> NextByte
             dma: dma,
         };
     }
+    let same = same::dma(d);
     NextByte {
         answer: NextAnswer::None,
-        dma: d,
+        dma: same,
     }
 }

@@ -86,12 +86,25 @@ pub fn unreached(state: &[u8; SIZE]) -> bool {
     state[7] > 2 || state[9] > 16 || left > 2048 || state[41] > 7 || state[80] > 1 || (left == 0 && state[4] != 0)
 }
 
-fn mode(number: u8) -> Mode {
+pub fn mode(number: u8) -> Mode {
     match number {
         0 => Mode::HorizontalBlank,
         1 => Mode::VerticalBlank,
         2 => Mode::OamScan,
         _ => Mode::Drawing,
+    }
+}
+
+/// The number of a switch that the original does not make.
+pub fn switch_refusal(cgb: &Cgb, hold: bool) -> u8 {
+    if hold {
+        5
+    } else if cgb.speed_switch_blackout > 0 {
+        11
+    } else if !cgb.key1_armed {
+        12
+    } else {
+        13
     }
 }
 
@@ -281,15 +294,7 @@ impl Oracle {
                 self.chassis.clock.edge = call.edge();
                 let latched = self.cgb.vram_dma.block.remaining > 0;
                 let up = !self.cgb.double_speed;
-                let reason = if hold {
-                    5
-                } else if self.cgb.speed_switch_blackout > 0 {
-                    11
-                } else if !self.cgb.key1_armed {
-                    12
-                } else {
-                    13
-                };
+                let reason = switch_refusal(&self.cgb, hold);
                 let escape = self.cgb.vram_dma.cursor.escape_byte;
                 if !self.cgb.attempt_speed_switch(&mut self.chassis) {
                     return declined(reason);

@@ -1,15 +1,14 @@
--- `fall_edge` meets its contract. Assumes nothing.
-use Rattle.fall_edge.specs.Fall.{fallOf}
+-- `fall_edge` meets its contract: by the shorter way where it is quiet, else by the steps. Assumes nothing.
+use mathlib.Core.Path.{sym}
+use Rattle.fall_edge.proofs.QuietFall.{quiet-fall, loud-fall}
 use Rattle.fall_edge.proofs.fall_edge.Statement.{statement}
 use Rattle.fall_edge.proofs.fall_edge.Tie as tie
 
 returns : tie.Need-returns
-unfolding fallOf
-returns c = rw (← c .before .before .before .before .before .inert .ensures, c .before .before .if1 .taken, c .settle-inert .ensures)
+returns c = rw (c .settle-inert .ensures) (sym (quiet-fall _ _ _ (rw (← c .before .before .before .quiet .ensures) (c .before .before .if1 .taken))))
 
 returns-2 : tie.Need-returns-2
-unfolding fallOf
-returns-2 c = rw (← c .before .before .before .before .before .before .inert .ensures, c .before .before .before .if1 .left, c .run .ensures, c .before .gates .ensures, c .before .before .view .ensures)
+returns-2 c = rw (c .run .ensures, c .before .gates .ensures, c .before .before .view .ensures) (sym (loud-fall _ _ _ (rw (← c .before .before .before .before .quiet .ensures) (c .before .before .before .if1 .left))))
 
 pub fall-edge-spec : {M : Type 1} → statement M
 fall-edge-spec = tie.close (tie.spec (λ _ _. tt) (λ _ _. tt) returns (λ _ _. tt) (λ _ _. tt) (λ _ _. tt) returns-2)

@@ -1,43 +1,31 @@
--- `same` meets its contract: the whole comparison is what was found so far and what is left. Assumes nothing.
-use Prim.Native.Nat.{_-_, _≤_}
+-- `same` meets its contract: each run hands the comparison on to the next, and nothing is left behind the last. Assumes nothing.
 use native.Mathlib.Omega.{arith}
-use mathlib.Core.Path.{_≡_, refl}
-use mathlib.Core.Bool.{_&&_}
-use lib.ListN.{drop}
-use Rattle.codec.specs.Codec.{sameBytes}
-use Rattle.codec.proofs.Runs.{same-more, same-all}
+use mathlib.Core.Path.{_∙_}
+use Rattle.codec.proofs.Runs.{same-all}
 use Rattle.codec.proofs.run.same.Statement.{statement}
 use Rattle.codec.proofs.run.same.Tie as tie
 
-abbrev Inv-loop : tie.InvT-loop
-Inv-loop a b equal₀ i₀ equal i = (i ≤ 248) × (sameBytes a b ≡ (equal && sameBytes (drop i a) (drop i b)))
-
-abbrev μ-loop : tie.MeasureT-loop
-μ-loop a b equal₀ i₀ equal i = 248 - i
-
--- an array of its type has 248 elements
-loop-again : tie.Need-loop-again Inv-loop μ-loop
-loop-again c =
-    let g = c .before .before .good in
-    let l = c .before .loop in
-    (omega arith, same-more _ _ (l .equal) (l .i) (l .inv .1) (omega (arith, g .0 .1 .0 .1)) (omega (arith, g .1 .0 .1 .0 .1)))
-
-returns : tie.Need-returns Inv-loop μ-loop
+returns : tie.Need-returns
 returns c =
-    let g = c .before .before .good in
-    let l = c .before .loop in
-    same-all _ _ (l .equal) (l .i) (l .inv .1) (omega (arith, g .0 .1 .0 .1)) (omega (arith, g .1 .0 .1 .0 .1))
+    let a = c .before .before .before .before .before .before .before .args in
+    let g = c .before .before .before .before .before .before .before .good in
+    same-all (a .a) (a .b) _ _ 248
+    (c .before .before .before .before .before .before .same-between .ensures
+    ∙ (c .before .before .before .before .before .same-between2 .ensures
+    ∙ (c .before .before .before .before .same-between3 .ensures
+    ∙ (c .before .before .before .same-between4 .ensures
+    ∙ (c .before .before .same-between5 .ensures ∙ (c .before .same-between6 .ensures ∙ c .same-between7 .ensures))))))
+    (omega (arith, g .0 .1 .0 .1)) (omega (arith, g .1 .0 .1 .0 .1))
 
 pub same-spec : {M : Type 1} → statement M
 same-spec =
     tie.close
     (tie.spec
-    Inv-loop
-    μ-loop
-    (λ c. (omega arith, refl))
-    (λ c. omega arith)
-    (λ c. omega arith)
-    (λ c. omega arith)
-    (λ c. omega arith)
-    loop-again
+    (λ _ _. (omega arith, omega arith))
+    (λ _ _. (omega arith, omega arith))
+    (λ _ _. (omega arith, omega arith))
+    (λ _ _. (omega arith, omega arith))
+    (λ _ _. (omega arith, omega arith))
+    (λ _ _. (omega arith, omega arith))
+    (λ _ _. (omega arith, omega arith))
     returns)

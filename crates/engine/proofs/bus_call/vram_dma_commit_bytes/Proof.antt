@@ -26,6 +26,9 @@ returns-2 c = let a = c .before .before .before .before .before .before .before 
 commit-bytes-requires : tie.Need-commit-bytes-requires
 commit-bytes-requires c κs = search needs
 
+cgb-with-requires : tie.Need-cgb-with-requires
+cgb-with-requires c κs = search needs
+
 same-length : tie.Need-same-length
 same-length c = search needs
 
@@ -33,7 +36,7 @@ same-length-2 : tie.Need-same-length-2
 same-length-2 c = search needs
 
 returns-3 : tie.Need-returns-3
-returns-3 c = let a = c .before .before .before .before .before .before .before .before .before .before .before .before .before .before .before .before .before .before .args in bused-moved (a .state) (a .input) (a .cartridge .now) (a .wram .now) (a .vram .now) (a .oam .now) _ _ _ (accepted (a .state) _ (sym (c .before .before .before .before .before .before .before .before .before .before .before .before .before .unreached .ensures) ∙ c .before .before .before .before .before .before .before .before .before .before .before .before .if1 .left) (sym (c .before .before .before .before .before .before .before .before .before .before .before .wrong-lengths .ensures) ∙ c .before .before .before .before .before .before .before .before .before .before .if2 .left)) (c .before .before .before .before .before .before .before .commit-bytes .ensures)
+returns-3 c = let a = c .before .before .before .before .before .before .before .before .before .before .before .before .before .before .before .before .before .before .args in rw (c .cgb-with .ensures) (bused-moved (a .state) (a .input) (a .cartridge .now) (a .wram .now) (a .vram .now) (a .oam .now) _ _ _ (accepted (a .state) _ (sym (c .before .before .before .before .before .before .before .before .before .before .before .before .before .unreached .ensures) ∙ c .before .before .before .before .before .before .before .before .before .before .before .before .if1 .left) (sym (c .before .before .before .before .before .before .before .before .before .before .before .wrong-lengths .ensures) ∙ c .before .before .before .before .before .before .before .before .before .before .if2 .left)) (c .before .before .before .before .before .before .before .commit-bytes .ensures))
 
 pub vram-dma-commit-bytes-spec : {M : Type 1} → statement M
 vram-dma-commit-bytes-spec =
@@ -46,6 +49,7 @@ vram-dma-commit-bytes-spec =
     refused-requires-2
     returns-2
     commit-bytes-requires
+    cgb-with-requires
     same-length
     same-length-2
     returns-3)

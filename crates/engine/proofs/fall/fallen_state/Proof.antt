@@ -5,11 +5,7 @@ use Rattle.engine.proofs.fall.fallen_state.Tie as tie
 
 returns : tie.Need-returns
 unfolding fallenState
-returns c = rw (c .before .before .if1 .taken)
-
-returns-2 : tie.Need-returns-2
-unfolding fallenState
-returns-2 c = rw (c .if1 .left)
+returns c = rw (c .before .before .cgb-with .ensures, c .before .before .before .pick-claim .ensures)
 
 pub fallen-state-spec : {M : Type 1} → statement M
-fallen-state-spec = tie.close (tie.spec returns returns-2)
+fallen-state-spec = tie.close (tie.spec (λ _ _. tt) (λ _ _. tt) returns)

@@ -22,9 +22,9 @@ returns c =
 
 returns-2 : tie.Need-returns-2
 returns-2 c =
-    let a = c .before .before .before .before .before .before .args in
-    rw (c .status-byte .ensures)
-    (pair-handed (a .answer) (a .state) _ (sym (c .before .before .before .before .pair-in .ensures) ∙ c .before .before .found .given .1))
+    let a = c .before .before .before .before .before .before .before .args in
+    rw (c .cgb .ensures, c .before .status-byte .ensures)
+    (pair-handed (a .answer) (a .state) _ (sym (c .before .before .before .before .before .pair-in .ensures) ∙ c .before .before .before .found .given .1))
 
 pub handed-spec : {M : Type 1} → statement M
-handed-spec = tie.close (tie.spec (λ _ _. tt) (λ _ _. tt) enum-known-found enum-told (λ _ _. tt) returns (λ _ _. tt) returns-2)
+handed-spec = tie.close (tie.spec (λ _ _. tt) (λ _ _. tt) enum-known-found enum-told (λ _ _. tt) returns (λ _ _. tt) (λ _ _. tt) returns-2)

@@ -5,7 +5,7 @@ use Rattle.transfer.proofs.pair.block_after.Tie as tie
 
 returns : tie.Need-returns
 unfolding blockAfter
-returns c = simp (c .before .before .before .less-one .ensures)
+returns c = simp (c .before .less-one .ensures)
 
 pub block-after-spec : {M : Type 1} → statement M
 block-after-spec = tie.close (tie.spec (λ _ _. tt) returns)

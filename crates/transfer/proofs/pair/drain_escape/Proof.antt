@@ -20,7 +20,7 @@ returns-2 c = rw (← c .before .before .before .before .before .before .before 
 
 returns-3 : tie.Need-returns-3
 unfolding drainOf
-returns-3 c = rw (← c .before .before .moving .ensures, c .if1 .left)
+returns-3 c = rw (← c .before .before .before .moving .ensures, c .before .if1 .left, c .dma2 .ensures)
 
 pub drain-escape-spec : {M : Type 1} → statement M
-drain-escape-spec = tie.close (tie.spec (λ _ _. tt) (λ _ _. tt) enum-known-answer enum-told returns returns-2 returns-3)
+drain-escape-spec = tie.close (tie.spec (λ _ _. tt) (λ _ _. tt) enum-known-answer enum-told returns returns-2 (λ _ _. tt) returns-3)

@@ -1,11 +1,16 @@
 // An untouched part, made anew field by field: the compiler keeps such a part in registers where it
 // would copy it whole.
 ghost use mathlib.Core.Path.{_≡_};
-ghost use Rattle.console.specs.Set.{withCursorQuota};
-use console::vram_dma::HaltArbiter;
-use console::vram_dma::HblankBlock;
-use console::vram_dma::OamContention;
-use console::vram_dma::TransferCursor;
+ghost use Rattle.console.specs.Set.{withCursorQuota, withVramDma};
+use crate::Cgb;
+use crate::CgbConsoleState;
+use crate::CgbVram;
+use crate::VramDmaClaim;
+use crate::vram_dma::HaltArbiter;
+use crate::vram_dma::HblankBlock;
+use crate::vram_dma::OamContention;
+use crate::vram_dma::TransferCursor;
+use crate::vram_dma::VramDma;
 use countdown::Countdown;
 
 pub fn cursor_with(c: TransferCursor, quota: u8) -> TransferCursor
@@ -80,4 +85,59 @@ pub fn oam(o: OamContention) -> OamContention
         was_transferring: o.was_transferring,
         contended: o.contended,
     }
+}
+
+pub fn dma(d: VramDma) -> VramDma
+    ensures { λ r. ⌜ r ≡ d ⌝ }
+{
+    let cursor = cursor(d.cursor);
+    let block = block(d.block);
+    let arb = arb(d.arb);
+    let oam = oam(d.oam);
+    VramDma {
+        cursor: cursor,
+        block: block,
+        arb: arb,
+        oam: oam,
+    }
+}
+
+// The console with another engine.
+pub fn cgb_with(s: Cgb, d: VramDma) -> Cgb
+    ensures { λ r. ⌜ r ≡ withVramDma d s ⌝ }
+{
+    let engine = dma(d);
+    let latency = s.speed_switch_wake_latency;
+    let extra_oam = s.extra_oam;
+    Cgb {
+        svbk: s.svbk,
+        key1_armed: s.key1_armed,
+        double_speed: s.double_speed,
+        dmg_compat: s.dmg_compat,
+        vram_dma: engine,
+        speed_switch_blackout: s.speed_switch_blackout,
+        speed_switch_wake_latency: latency,
+        switch_relock_debit: s.switch_relock_debit,
+        ff72: s.ff72,
+        ff73: s.ff73,
+        ff74: s.ff74,
+        ff75: s.ff75,
+        extra_oam: extra_oam,
+        vram: CgbVram {
+            selected: s.vram.selected,
+        },
+        console_state: CgbConsoleState {
+            blackout_anchor: s.console_state.blackout_anchor,
+            vram_dma_claim: VramDmaClaim {
+                committed: s.console_state.vram_dma_claim.committed,
+                standing: s.console_state.vram_dma_claim.standing,
+            },
+        },
+    }
+}
+
+pub fn cgb(s: Cgb) -> Cgb
+    ensures { λ r. ⌜ r ≡ s ⌝ }
+{
+    cgb_with(s, s.vram_dma)
 }

@@ -1,0 +1,168 @@
+//! The port against the original Rust, in one run and on the same input. Each side is timed in turns, `ROUNDS` times; a row
+//! gives the medians of both, in nanoseconds a call, and the median of the turns' ratios, port to original. The end states,
+//! the memory and the replays' lines must be equal, or the run fails.
+//!
+//!     bench [REPLAY]     REPLAY: the port's replay program, target/bin/replay
+mod input;
+mod port;
+
+use std::fs::File;
+use std::process::{Command, Stdio, exit};
+use std::time::{Duration, Instant};
+
+use oracle::entry::Entry;
+use oracle::loops::Original;
+use port::Memory;
+
+const ROUNDS: usize = 25;
+
+fn timed(mut side: impl FnMut()) -> f64 {
+    let began = Instant::now();
+    side();
+    began.elapsed().as_secs_f64()
+}
+
+fn median(mut values: Vec<f64>) -> f64 {
+    values.sort_by(f64::total_cmp);
+    values[values.len() / 2]
+}
+
+/// Times both sides in turns and prints the row. A goal is the ratio that was asked for.
+fn row(name: &str, calls: usize, goal: f64, mut port: impl FnMut(), mut original: impl FnMut()) {
+    let (mut ours, mut theirs, mut ratios) = (Vec::new(), Vec::new(), Vec::new());
+    for _ in 0..ROUNDS {
+        let (p, o) = (timed(&mut port), timed(&mut original));
+        ours.push(p);
+        theirs.push(o);
+        ratios.push(p / o);
+    }
+    let ns = |seconds: Vec<f64>| median(seconds) * 1e9 / calls as f64;
+    println!("| {name} | {:.1} | {:.1} | {:.2} | {goal:.1} |", ns(ours), ns(theirs), median(ratios));
+}
+
+/// Runs of steps, each from the start state.
+fn falls(name: &str, goal: f64, start: [u8; 248], steps: &[u8], each: usize, times: usize) {
+    let mut original = Original::new();
+    let mut memory = Memory::new();
+    original.set_memory(&memory.cartridge, &memory.wram, &memory.vram, &memory.oam);
+    let (mut ours, mut theirs) = (start, start);
+    row(
+        name,
+        steps.len() * times,
+        goal,
+        || {
+            for part in (0..times).flat_map(|_| steps.chunks(each)) {
+                ours = start;
+                port::falls(&mut ours, part, &mut memory);
+            }
+        },
+        || {
+            for part in (0..times).flat_map(|_| steps.chunks(each)) {
+                theirs = start;
+                original.falls(&mut theirs, part);
+            }
+        },
+    );
+    let (low, high) = memory.vram.split_at(8192);
+    assert_eq!(ours, theirs, "{name}: the states differ");
+    assert!([low, high, &memory.oam] == original.memory(), "{name}: memory differs");
+}
+
+/// The exported entry: the state, the call and the answer as bytes, read and written at every call, on both sides.
+fn entry(name: &str, goal: f64, start: [u8; 248], steps: &[u8]) {
+    let records: Vec<[u8; 16]> = steps
+        .iter()
+        .enumerate()
+        .flat_map(|(edge, step)| {
+            let bus = (step & input::BUS != 0).then(input::bus_record);
+            std::iter::once(input::fall_record(*step, edge as u64)).chain(bus)
+        })
+        .collect();
+    let mut memory = Memory::new();
+    let mut original = Entry::new(&memory.cartridge, &memory.wram, &memory.vram, &memory.oam);
+    let (mut ours, mut theirs) = (start, start);
+    row(
+        name,
+        records.len(),
+        goal,
+        || {
+            ours = start;
+            for call in &records {
+                assert_eq!(port::perform(&mut ours, call, &mut memory), 0);
+            }
+        },
+        || {
+            theirs = start;
+            for call in &records {
+                assert_eq!(original.perform(&mut theirs, call), 0);
+            }
+        },
+    );
+    assert_eq!(ours, theirs, "{name}: the states differ");
+}
+
+fn replayed(program: &str, words: &[&str], script: &str, lines: &str) {
+    let input = Stdio::from(File::open(script).expect("the script can be read"));
+    let output = Stdio::from(File::create(lines).expect("the lines can be written"));
+    let status = Command::new(program).args(words).stdin(input).stdout(output).status();
+    assert!(status.is_ok_and(|s| s.success()), "{program} did not run");
+}
+
+/// The replay programs, each as a process of its own: from a file to a file.
+fn replay(program: &str, steps: &[u8], frames: usize) {
+    let folder = std::env::temp_dir().join(format!("bench-{}", std::process::id()));
+    std::fs::create_dir_all(&folder).expect("a folder for the script");
+    let place = |name: &str| folder.join(name).to_str().expect("a plain path").to_string();
+    let (script, ours, theirs) = (place("script"), place("port"), place("original"));
+    let bytes = input::script(steps, frames);
+    std::fs::write(&script, &bytes).expect("the script can be written");
+    let own = std::env::current_exe().expect("this program").to_str().expect("a plain path").to_string();
+    row(
+        "replay, a record",
+        bytes.len() / 16,
+        1.0,
+        || replayed(program, &[], &script, &ours),
+        || replayed(&own, &["original-replay"], &script, &theirs),
+    );
+    let same = std::fs::read(&ours).unwrap() == std::fs::read(&theirs).unwrap();
+    std::fs::remove_dir_all(&folder).ok();
+    assert!(same, "the replays' lines differ");
+}
+
+/// A warm processor: the first row is not to pay for it.
+fn warm() {
+    let began = Instant::now();
+    while began.elapsed() < Duration::from_millis(300) {
+        std::hint::black_box(input::frame());
+    }
+}
+
+fn main() {
+    let words: Vec<String> = std::env::args().skip(1).collect();
+    if words.first().map(String::as_str) == Some("original-replay") {
+        let (mut input, mut output) = (std::io::stdin().lock(), std::io::stdout().lock());
+        oracle::replay::run(&mut input, &mut output).expect("the replay could not be read or written");
+        return;
+    }
+    if words.len() > 1 {
+        eprintln!("usage: bench [REPLAY]");
+        exit(2);
+    }
+    warm();
+    let mut original = Original::new();
+    let (idle, armed, general) = (original.power_on(), original.armed(), original.general());
+    let frame = input::frame();
+    let upload = original.with_bus_calls(&armed, &frame);
+    let random = input::random(65_536);
+    println!("| what | port, ns | original, ns | ratio | goal |");
+    println!("|---|---|---|---|---|");
+    falls("falls of a frame, nothing armed", 0.8, idle, &frame, frame.len(), 10);
+    falls("falls of a frame under an HBlank transfer", 0.6, armed, &upload, upload.len(), 10);
+    falls("random falls", 1.0, armed, &random, 8192, 10);
+    falls("bus calls of a General transfer, a fall before each", 1.0, general, &input::general(1024), 1024, 500);
+    entry("the exported entry, calls of a frame under an HBlank transfer", 1.0, armed, &upload);
+    match words.first() {
+        Some(program) => replay(program, &upload, 10),
+        None => eprintln!("bench: no replay program was named: the replay was not measured"),
+    }
+}

@@ -1,0 +1,80 @@
+-- `bench_falls` stays inside its slices and ends. Assumes nothing.
+use borrow.Author.Needs.{needs}
+use Prim.Native.Nat.{_-_, _≤_}
+use mathlib.Core.Path.{_≡_}
+use lib.ListN.{length}
+use Rattle.bench.proofs.bench_falls.Statement.{statement}
+use Rattle.bench.proofs.bench_falls.Tie as tie
+
+abbrev Inv-loop : tie.InvT-loop
+Inv-loop bytes steps cartridge wram vram₀ oam₀ state₀ i₀ vram oam state i = (length vram ≡ length vram₀) × (length oam ≡ length oam₀) × (i ≤ length steps)
+
+abbrev μ-loop : tie.MeasureT-loop
+μ-loop bytes steps cartridge wram vram₀ oam₀ state₀ i₀ vram oam state i = length steps - i
+
+decode-requires : tie.Need-decode-requires Inv-loop μ-loop
+decode-requires c κs = search needs
+
+loop-holds : tie.Need-loop-holds Inv-loop μ-loop
+loop-holds c = search needs
+
+shared-slice-read-step : tie.Need-shared-slice-read-step Inv-loop μ-loop
+shared-slice-read-step c = search needs
+
+fall-input-requires : tie.Need-fall-input-requires Inv-loop μ-loop
+fall-input-requires c κs = search needs
+
+add-i : tie.Need-add-i Inv-loop μ-loop
+add-i c = search needs
+
+vram-dma-fall-edge-requires : tie.Need-vram-dma-fall-edge-requires Inv-loop μ-loop
+vram-dma-fall-edge-requires c κs = search needs
+
+bus-requires : tie.Need-bus-requires Inv-loop μ-loop
+bus-requires c κs = search needs
+
+loop-less : tie.Need-loop-less Inv-loop μ-loop
+loop-less c = search needs
+
+loop-again : tie.Need-loop-again Inv-loop μ-loop
+loop-again c = search needs
+
+loop-less-2 : tie.Need-loop-less-2 Inv-loop μ-loop
+loop-less-2 c = search needs
+
+loop-again-2 : tie.Need-loop-again-2 Inv-loop μ-loop
+loop-again-2 c = search needs
+
+encode-requires : tie.Need-encode-requires Inv-loop μ-loop
+encode-requires c κs = search needs
+
+same-length : tie.Need-same-length Inv-loop μ-loop
+same-length c = search needs
+
+same-length-2 : tie.Need-same-length-2 Inv-loop μ-loop
+same-length-2 c = search needs
+
+returns : tie.Need-returns Inv-loop μ-loop
+returns c = search needs
+
+pub bench-falls-spec : {M : Type 1} → statement M
+bench-falls-spec =
+    tie.close
+    (tie.spec
+    Inv-loop
+    μ-loop
+    decode-requires
+    loop-holds
+    shared-slice-read-step
+    fall-input-requires
+    add-i
+    vram-dma-fall-edge-requires
+    bus-requires
+    loop-less
+    loop-again
+    loop-less-2
+    loop-again-2
+    encode-requires
+    same-length
+    same-length-2
+    returns)

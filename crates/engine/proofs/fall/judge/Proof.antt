@@ -1,0 +1,17 @@
+-- `judge` meets its contract: the first reason that holds, and with 14 the engine as given. Assumes nothing.
+use borrow.Author.Tests.{lt-ltb, le-ltb}
+use Rattle.engine.proofs.FallCall.{judged}
+use Rattle.engine.proofs.fall.judge.Statement.{statement}
+use Rattle.engine.proofs.fall.judge.Tie as tie
+
+returns : tie.Need-returns
+returns c = rw (c .before .if1 .taken, c .declined .ensures)
+
+returns-2 : tie.Need-returns-2
+returns-2 c = rw (c .before .before .before .if1 .left, lt-ltb _ _ (c .before .if2 .taken), c .declined2 .ensures)
+
+returns-3 : tie.Need-returns-3
+returns-3 c = rw (c .before .before .before .before .before .if1 .left, le-ltb _ _ (c .before .before .before .if2 .left), c .dma .ensures, c .before .pick8 .ensures, c .before .before .fall-edge .ensures) (judged _ _ _)
+
+pub judge-spec : {M : Type 1} → statement M
+judge-spec = tie.close (tie.spec (λ _ _. tt) returns (λ _ _. tt) returns-2 (λ _ _. tt) (λ _ _. tt) (λ _ _. tt) returns-3)

@@ -1,0 +1,98 @@
+//! The original VRAM DMA and speed switch as an oracle: its own files, unchanged, over document 01's
+//! stand-ins (the crate missingno_gb beside this one). It writes vectors: a call, the state before, the
+//! original's answer, the state and the changed bytes of memory after.
+//!
+//!     MISSINGNO_SRC=.. cargo run --release -- vectors SEED COUNT [KINDS] > FILE
+//!     MISSINGNO_SRC=.. cargo run --release -- select SEED COUNT [KINDS] > FILE
+//!     MISSINGNO_SRC=.. cargo run --release -- cases > FILE
+//!     MISSINGNO_SRC=.. PORT_LIB=.. cargo run --release -- compare SEED COUNT [rising]
+//!
+//! Built with BRANCHES=1 the run tells at its end which conditions of the original never came out one way.
+//!
+//! The originals name `crate::Cgb`, `crate::vram_dma` and so on, so they stand at this crate's root.
+
+mod calls;
+mod cases;
+#[cfg(port)]
+mod compare;
+pub mod entry;
+mod layout;
+pub mod loops;
+mod memory;
+mod random;
+pub mod replay;
+mod vectors;
+
+include!(concat!(env!("OUT_DIR"), "/originals.rs"));
+
+#[cfg(branches)]
+mod reached;
+#[cfg(branches)]
+pub use reached::probe;
+
+use console_state::CgbConsoleState;
+use vram::CgbVram;
+use vram_dma::{VramDma, VramDmaStatus};
+
+include!(concat!(env!("OUT_DIR"), "/cgb.rs"));
+
+/// FF68 to FF6B stay outside the comparison (document 01, refusal 4).
+#[derive(Default)]
+pub struct CgbPpu;
+
+#[allow(dead_code)]
+pub enum ColorRegister {
+    BackgroundIndex,
+    BackgroundData,
+    ObjectIndex,
+    ObjectData,
+}
+
+impl CgbPpu {
+    fn read_color_register(&self, _register: ColorRegister) -> u8 {
+        0
+    }
+    fn write_color_register(&mut self, _register: ColorRegister, _value: u8) {}
+}
+
+impl missingno_gb::Model for Cgb {
+    type Vram = CgbVram;
+    type Ppu = CgbPpu;
+    type ConsoleState = CgbConsoleState;
+
+    fn console_state(&self) -> &CgbConsoleState {
+        &self.console_state
+    }
+    fn console_state_mut(&mut self) -> &mut CgbConsoleState {
+        &mut self.console_state
+    }
+    fn has_serial_fast_clock(&self) -> bool {
+        !self.dmg_compat
+    }
+}
+
+/// The commands.
+pub fn command() {
+    let words: Vec<String> = std::env::args().skip(1).collect();
+    let usage = "usage: oracle vectors|select SEED COUNT [KIND,KIND,..] | cases | replay | compare SEED COUNT [rising]";
+    match words.first().map(String::as_str) {
+        Some("vectors") => vectors::write(&words[1..], usage),
+        Some("select") => vectors::select(&words[1..], usage),
+        Some("cases") => cases::write(&mut std::io::stdout().lock()),
+        Some("replay") => {
+            let (mut input, mut output) = (std::io::stdin().lock(), std::io::stdout().lock());
+            replay::run(&mut input, &mut output).expect("the replay could not be read or written");
+        }
+        #[cfg(port)]
+        Some("compare") => compare::run(&words[1..], usage),
+        #[cfg(not(port))]
+        Some("compare") => {
+            eprintln!("compare: built without the port's library: set PORT_LIB to the folder of libc_api.a and build again");
+            std::process::exit(2);
+        }
+        _ => {
+            eprintln!("{usage}");
+            std::process::exit(2);
+        }
+    }
+}
