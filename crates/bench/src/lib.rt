@@ -26,7 +26,7 @@ fn bus_input() -> BusInput {
 
 // A bus call that holds the bus.
 fn bus(state: Cgb, cartridge: &[u8], wram: &[u8], vram: &mut [u8], oam: &mut [u8]) -> Cgb {
-    let bussed = engine::bus_call::vram_dma_commit_bytes(
+    let bussed = bus_calls::bus_call::vram_dma_commit_bytes(
         state,
         bus_input(),
         cartridge,

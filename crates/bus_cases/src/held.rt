@@ -1,9 +1,9 @@
 // A held bus call, with lines for what it moved.
 use crate::lent;
+use answers::BusAnswer;
+use answers::Bussed;
 use bus::commit::BusInput;
 use console::Cgb;
-use engine::answer::BusAnswer;
-use engine::answer::Bussed;
 use observe::say;
 use transfer::pair::BytePair;
 
@@ -47,7 +47,7 @@ pub fn beside(
         suspended: false,
         oam_start_edge: oam_start_edge,
     };
-    let b = engine::bus_call::vram_dma_commit_bytes(state, input, cartridge, &wram, vram, oam);
+    let b = bus_calls::bus_call::vram_dma_commit_bytes(state, input, cartridge, &wram, vram, oam);
     tell(label, b)
 }
 

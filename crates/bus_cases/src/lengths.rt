@@ -12,7 +12,7 @@ fn call(label: &[u8], state: Cgb, cartridge: &[u8], wram: &[u8], vram: &mut [u8]
         suspended: false,
         oam_start_edge: 0,
     };
-    let b = engine::bus_call::vram_dma_commit_bytes(state, input, cartridge, wram, vram, oam);
+    let b = bus_calls::bus_call::vram_dma_commit_bytes(state, input, cartridge, wram, vram, oam);
     let answer = b.answer;
     say::bussed(label, answer);
     say::yes(b"state as before: ", calls::same(state, b.state));

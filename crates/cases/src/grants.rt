@@ -1,6 +1,6 @@
 // K9: blocks are granted and never moved, until the count is full.
+use answers::ClaimAnswer;
 use console::Cgb;
-use engine::answer::ClaimAnswer;
 use observe::calls;
 use observe::say;
 

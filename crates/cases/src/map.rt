@@ -10,7 +10,7 @@ fn set(state: Cgb, wram: &mut [u8; 32768], address: u16, value: u8) -> Cgb {
         value: value,
         lcd_on: true,
     };
-    engine::access::write(state, wram, address, input).state
+    bus_calls::access::write(state, wram, address, input).state
 }
 
 // A write with the LCD on, with a line for its answer; of any slice.
@@ -19,7 +19,7 @@ fn wrote(label: &[u8], state: Cgb, wram: &mut [u8], address: u16, value: u8) -> 
         value: value,
         lcd_on: true,
     };
-    let w = engine::access::write(state, wram, address, input);
+    let w = bus_calls::access::write(state, wram, address, input);
     let answer = w.answer;
     say::done(label, answer);
     w.state
@@ -30,7 +30,7 @@ fn written(label: &[u8], state: Cgb, wram: &mut [u8; 32768], address: u16, value
 }
 
 fn read_of(label: &[u8], state: Cgb, wram: &[u8], address: u16) {
-    say::byte(label, engine::access::read(state, wram, address));
+    say::byte(label, bus_calls::access::read(state, wram, address));
 }
 
 fn read(label: &[u8], state: Cgb, wram: &[u8; 32768], address: u16) {

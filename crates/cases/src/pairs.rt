@@ -1,7 +1,7 @@
 // K4 and K5: General transfers by rounds of a fall and next pairs.
+use answers::PairAnswer;
 use console::Cgb;
 use countdown::step::saturating_inc;
-use engine::answer::PairAnswer;
 use observe::calls;
 use observe::say;
 use transfer::pair::BytePair;

@@ -12,10 +12,10 @@ use Rattle.fall_edge.specs.Fall.{fallOf, refusedOf}
 use Rattle.fall_edge.specs.declared.FallInput.{FallInput}
 use Rattle.fall_edge.specs.declared.Fallen.{Fallen}
 use Rattle.fall_edge.proofs.Steps.{fall-steps}
-use Rattle.engine.specs.Answers.{Said, saying, bitOf, kept, claimSays}
+use Rattle.answers.specs.Answers.{Said, saying, bitOf, kept, claimSays}
 use Rattle.engine.specs.Fall.{claimAnswer, outcomeOf, fallenState}
-use Rattle.engine.specs.declared.answer.ClaimAnswer.the-variants.{Claim, Refused}
-use Rattle.engine.specs.declared.answer.Fell.{Fell}
+use Rattle.answers.specs.declared.ClaimAnswer.the-variants.{Claim, Refused}
+use Rattle.answers.specs.declared.Fell.{Fell}
 use Rattle.engine.specs.declared.fall.Outcome.{Outcome}
 
 -- refused with 14, the fall is the engine as given

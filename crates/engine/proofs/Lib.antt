@@ -1,4 +1,2 @@
-pub mod Accepted
 pub mod Says
-pub mod Bused
 mod FallCall

@@ -12,10 +12,10 @@ use Rattle.console.specs.declared.vram_dma.VramDma.{VramDma}
 use Rattle.fall_edge.specs.Fall.{fallOf, refusedOf}
 use Rattle.fall_edge.specs.declared.FallInput.{FallInput}
 use Rattle.fall_edge.specs.declared.Fallen.{Fallen}
-use Rattle.engine.specs.Answers.{Said, saying, bitOf, kept}
-use Rattle.engine.specs.declared.answer.ClaimAnswer.{ClaimAnswer}
-use Rattle.engine.specs.declared.answer.ClaimAnswer.the-variants.{Claim, Refused}
-use Rattle.engine.specs.declared.answer.Fell.{Fell}
+use Rattle.answers.specs.Answers.{Said, saying, bitOf, kept}
+use Rattle.answers.specs.declared.ClaimAnswer.{ClaimAnswer}
+use Rattle.answers.specs.declared.ClaimAnswer.the-variants.{Claim, Refused}
+use Rattle.answers.specs.declared.Fell.{Fell}
 use Rattle.engine.specs.declared.fall.Outcome.{Outcome}
 
 abbrev pub fallen : Cgb → FallInput → Fallen

@@ -4,10 +4,8 @@ use mathlib.Core.List.{[]}
 use Rattle.console.specs.Set.{withVramDma, withSwitchRelockDebit}
 use Rattle.console.specs.declared.Cgb.{Cgb}
 use Rattle.transfer.specs.Latch.{lcdDisabledOf, retiredOf}
-use Rattle.engine.specs.Access.{doneAnswer}
-use Rattle.engine.specs.Answers.{Said, saying, kept}
-use Rattle.engine.specs.Query.{stateRefusal}
-use Rattle.engine.specs.declared.answer.Done.{Done}
+use Rattle.answers.specs.Answers.{Said, saying, kept, stateRefusal, doneAnswer}
+use Rattle.answers.specs.declared.Done.{Done}
 
 -- what a call says that gives nothing
 unfoldable pub doneSaid : Cgb → Said

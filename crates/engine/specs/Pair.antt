@@ -8,11 +8,10 @@ use Rattle.transfer.specs.Pair.{nextByteOf, drainOf}
 use Rattle.transfer.specs.declared.pair.NextAnswer.{NextAnswer}
 use Rattle.transfer.specs.declared.pair.NextAnswer.the-variants as next
 use Rattle.transfer.specs.declared.pair.NextByte.{NextByte}
-use Rattle.engine.specs.Answers.{Said, saying, kept}
-use Rattle.engine.specs.Query.{stateRefusal}
-use Rattle.engine.specs.declared.answer.Handed.{Handed}
-use Rattle.engine.specs.declared.answer.PairAnswer.{PairAnswer}
-use Rattle.engine.specs.declared.answer.PairAnswer.the-variants.{Pair, None, Refused}
+use Rattle.answers.specs.Answers.{Said, saying, kept, stateRefusal}
+use Rattle.answers.specs.declared.Handed.{Handed}
+use Rattle.answers.specs.declared.PairAnswer.{PairAnswer}
+use Rattle.answers.specs.declared.PairAnswer.the-variants.{Pair, None, Refused}
 
 abbrev pub pairAnswerOf : NextAnswer → PairAnswer
 pairAnswerOf (next.Pair p) = Pair p

@@ -14,13 +14,12 @@ use Rattle.speed_switch.specs.declared.blackout.Flagged as part
 use Rattle.speed_switch.specs.declared.switch.SwitchInput.{SwitchInput}
 use Rattle.speed_switch.specs.declared.switch.SwitchOutcome.{SwitchOutcome}
 use Rattle.speed_switch.specs.declared.switch.SwitchOutcome.the-variants as outcome
-use Rattle.engine.specs.Answers.{Said, saying, bitOf, kept}
-use Rattle.engine.specs.Query.{stateRefusal}
-use Rattle.engine.specs.declared.answer.FlagAnswer.the-variants as flag
-use Rattle.engine.specs.declared.answer.Flagged.{Flagged}
-use Rattle.engine.specs.declared.answer.SwitchAnswer.{SwitchAnswer}
-use Rattle.engine.specs.declared.answer.SwitchAnswer.the-variants as switch
-use Rattle.engine.specs.declared.answer.Switched.{Switched}
+use Rattle.answers.specs.Answers.{Said, saying, bitOf, kept, stateRefusal}
+use Rattle.answers.specs.declared.FlagAnswer.the-variants as flag
+use Rattle.answers.specs.declared.Flagged.{Flagged}
+use Rattle.answers.specs.declared.SwitchAnswer.{SwitchAnswer}
+use Rattle.answers.specs.declared.SwitchAnswer.the-variants as switch
+use Rattle.answers.specs.declared.Switched.{Switched}
 
 -- 13: "downward with a ready block"
 unfoldable pub defers : Cgb → Bool

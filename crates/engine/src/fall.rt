@@ -3,10 +3,10 @@
 ghost use mathlib.Core.Path.{_≡_};
 ghost use mathlib.Core.Bool.{cond};
 ghost use Rattle.fall_edge.specs.Fall.{fallOf, refusedOf};
-ghost use Rattle.engine.specs.Answers.{Answers, fellSays};
+ghost use Rattle.answers.specs.Answers.{Answers, fellSays};
 ghost use Rattle.engine.specs.Fall.{claimAnswer, fallNumber, outcomeOf, fallenState, fallCallOf, fallSaid};
-use crate::answer::ClaimAnswer;
-use crate::answer::Fell;
+use answers::ClaimAnswer;
+use answers::Fell;
 use console::Cgb;
 use console::VramDmaClaim;
 use console::refusal;

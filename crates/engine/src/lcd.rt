@@ -1,8 +1,8 @@
 // The LCD goes off, an instruction retires (lib.rs, `vram_dma_lcd_disabled`, `vram_dma_instruction_retired`).
-ghost use Rattle.engine.specs.Answers.{Answers, doneStateSays};
+ghost use Rattle.answers.specs.Answers.{Answers, doneStateSays};
 ghost use Rattle.engine.specs.Lcd.{lcdCallOf, retiredCallOf, doneSaid};
-use crate::answer::Done;
-use crate::answer::DoneAnswer;
+use answers::Done;
+use answers::DoneAnswer;
 use console::Cgb;
 use console::refusal;
 

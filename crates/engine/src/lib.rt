@@ -1,14 +1,9 @@
-// The public calls: power-on, and each call of document 01 that takes the engine's state. Each call
-// tests 7 and its own refusals in the paper's order, hands back what it was given where it declines,
-// and leaves the work to one function of a lower room.
-pub mod access;
-pub mod answer;
-pub mod bus_call;
+// The public calls that step the engine: power-on, the fall, the pairs, the switch, LCD off. With `bus_calls` and `queries`
+// they are all that document 01 has. Each call tests 7 and its own refusals in the paper's order, hands back what it was given
+// where it declines, and leaves the work to one function of a lower room.
 pub mod fall;
 pub mod lcd;
 pub mod pair;
-pub mod query;
-pub mod shared_bus;
 pub mod speed;
 
 ghost use mathlib.Core.Path.{_≡_};

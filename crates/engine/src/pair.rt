@@ -1,9 +1,9 @@
 // The next pair and the escape drain (vram_dma.rs, `next_byte`; lib.rs, `vram_dma_drain_escape`).
-ghost use Rattle.engine.specs.Answers.{Answers, handedSays};
+ghost use Rattle.answers.specs.Answers.{Answers, handedSays};
 ghost use Rattle.engine.specs.Pair.{pairAnswerOf, nextPairOf, nextPairSaid, escapeDrainOf, escapeDrainSaid};
 ghost use mathlib.Core.Path.{_≡_};
-use crate::answer::Handed;
-use crate::answer::PairAnswer;
+use answers::Handed;
+use answers::PairAnswer;
 use console::Cgb;
 use console::refusal;
 use console::same;

@@ -1,12 +1,12 @@
 // The speed switch, its blackout and the wake in it (lib.rs, `resolve_stop`,
 // `drain_speed_switch_blackout`, `speed_switch_wake_ready`).
 ghost use mathlib.Core.Path.{_≡_};
-ghost use Rattle.engine.specs.Answers.{Answers, switchedSays, flaggedSays};
+ghost use Rattle.answers.specs.Answers.{Answers, switchedSays, flaggedSays};
 ghost use Rattle.engine.specs.Speed.{defers, switchAnswerOf, switchCallOf, switchSaid, blackoutCallOf, blackoutSaid, wakeCallOf, wakeSaid};
-use crate::answer::FlagAnswer;
-use crate::answer::Flagged;
-use crate::answer::SwitchAnswer;
-use crate::answer::Switched;
+use answers::FlagAnswer;
+use answers::Flagged;
+use answers::SwitchAnswer;
+use answers::Switched;
 use console::Cgb;
 use console::refusal;
 use speed_switch::switch::SwitchInput;

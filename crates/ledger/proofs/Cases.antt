@@ -24,10 +24,10 @@ use Rattle.fall_edge.specs.Fall.{fallOf, ranOf, decidedOf, servedOf}
 use Rattle.speed_switch.specs.Switch as switch
 use Rattle.speed_switch.specs.Switch.{outcomeOf, ungranted, cutOf, discardedOf, gradedOf, upwardOf, engineAfter, blackoutOf, switchedOf}
 use Rattle.speed_switch.specs.Blackout.{drainedOf}
-use Rattle.engine.specs.Access.{accessRefusal, writeOf}
-use Rattle.engine.specs.BusCall.{wrongLengths, busRefusal, busPairs, busAnswer, busState, busVram}
+use Rattle.bus_calls.specs.Access.{accessRefusal, writeOf}
+use Rattle.bus_calls.specs.BusCall.{wrongLengths, busRefusal, busPairs, busAnswer, busState, busVram}
 use Rattle.engine.specs.Fall.{fallRefusal, fallenState, fallCallOf}
-use Rattle.engine.specs.Query.{stateRefusal}
+use Rattle.answers.specs.Answers.{stateRefusal}
 use Rattle.engine.specs.Speed.{defers, switchRefusal, switchCallOf, blackoutCallOf}
 use Rattle.ledger.specs.Ledger.{empty, followed, paid, paidAll, entered}
 use Rattle.ledger.specs.Calls.{step, seen}

@@ -29,25 +29,25 @@ use Rattle.transfer.specs.declared.Conflict.the-variants as found
 use Rattle.transfer.specs.declared.pair.BytePair.{BytePair}
 use Rattle.transfer.specs.declared.pair.NextAnswer.{NextAnswer}
 use Rattle.transfer.specs.declared.pair.NextAnswer.the-variants as next
-use Rattle.engine.specs.Access.{accessRefusal, writeOf}
-use Rattle.engine.specs.Answers.{doneSays, conflictSays, tallySays, statusSays, claimSays, flagSays, byteSays}
-use Rattle.engine.specs.Bus.{arbitrated, arbitrationAnswerOf, arbitrationCallOf, conflictAnswerOf, conflictCallOf}
-use Rattle.engine.specs.BusCall.{Lengths, busRefusal, takenIn, busPairs, busState}
+use Rattle.bus_calls.specs.Access.{accessRefusal, writeOf}
+use Rattle.answers.specs.Answers.{doneSays, conflictSays, tallySays, statusSays, claimSays, flagSays, byteSays, stateRefusal}
+use Rattle.bus_calls.specs.Bus.{arbitrated, arbitrationAnswerOf, arbitrationCallOf, conflictAnswerOf, conflictCallOf}
+use Rattle.bus_calls.specs.BusCall.{Lengths, busRefusal, takenIn, busPairs, busState}
 use Rattle.engine.specs.Fall.{fallen, fallRefusal, fallenState, fallCallOf}
 use Rattle.engine.specs.Lcd.{lcdCallOf, retiredCallOf}
 use Rattle.engine.specs.Pair.{pairAnswerOf, nextPairOf, escapeDrainOf}
-use Rattle.engine.specs.Query.{stateRefusal, flagOf, byteOf, tallyOf, statusOf, claimOf}
+use Rattle.queries.specs.Query.{flagOf, byteOf, tallyOf, statusOf, claimOf}
 use Rattle.engine.specs.Speed.{switchRefusal, switchAnswerOf, switchCallOf, blackoutCallOf, wakeCallOf}
-use Rattle.engine.specs.declared.answer.ArbitrationAnswer.the-variants as arbitration
-use Rattle.engine.specs.declared.answer.ByteAnswer.the-variants as byte
-use Rattle.engine.specs.declared.answer.ClaimAnswer.the-variants as claim
-use Rattle.engine.specs.declared.answer.ConflictAnswer.the-variants as conflict
-use Rattle.engine.specs.declared.answer.DoneAnswer.the-variants as done
-use Rattle.engine.specs.declared.answer.FlagAnswer.the-variants as flag
-use Rattle.engine.specs.declared.answer.PairAnswer.the-variants as pair
-use Rattle.engine.specs.declared.answer.StatusAnswer.the-variants as status
-use Rattle.engine.specs.declared.answer.SwitchAnswer.the-variants as switch
-use Rattle.engine.specs.declared.answer.TallyAnswer.the-variants as tally
+use Rattle.answers.specs.declared.ArbitrationAnswer.the-variants as arbitration
+use Rattle.answers.specs.declared.ByteAnswer.the-variants as byte
+use Rattle.answers.specs.declared.ClaimAnswer.the-variants as claim
+use Rattle.answers.specs.declared.ConflictAnswer.the-variants as conflict
+use Rattle.answers.specs.declared.DoneAnswer.the-variants as done
+use Rattle.answers.specs.declared.FlagAnswer.the-variants as flag
+use Rattle.answers.specs.declared.PairAnswer.the-variants as pair
+use Rattle.answers.specs.declared.StatusAnswer.the-variants as status
+use Rattle.answers.specs.declared.SwitchAnswer.the-variants as switch
+use Rattle.answers.specs.declared.TallyAnswer.the-variants as tally
 use Rattle.ledger.specs.Calls
 use Rattle.ledger.specs.Calls.{Query, Outcome, plain, ofDone, ofFlagged, ofFell, ofArbitrated, ofHanded, ofSwitched, isCut, asked, step}
 

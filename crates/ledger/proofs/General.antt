@@ -28,9 +28,10 @@ use Rattle.transfer.specs.declared.pair.NextByte.{NextByte}
 use Rattle.transfer.specs.declared.pair.NextAnswer.the-variants as next
 use Rattle.transfer.proofs.Steps.{pair-steps, steps}
 use Rattle.fall_edge.proofs.Refills.{general-moves}
-use Rattle.engine.specs.BusCall.{Lengths, busRefusal, takenIn, busPairs}
-use Rattle.engine.specs.Query.{stateRefusal, statusOf}
-use Rattle.engine.specs.declared.answer.StatusAnswer.the-variants.{Status, Refused}
+use Rattle.bus_calls.specs.BusCall.{Lengths, busRefusal, takenIn, busPairs}
+use Rattle.queries.specs.Query.{statusOf}
+use Rattle.answers.specs.Answers.{stateRefusal}
+use Rattle.answers.specs.declared.StatusAnswer.the-variants.{Status, Refused}
 use Rattle.ledger.specs.Demand3.{share}
 
 -- a status of General is told in mode General alone

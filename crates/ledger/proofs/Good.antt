@@ -35,9 +35,9 @@ use Rattle.transfer.specs.declared.pair.NextAnswer.{NextAnswer}
 use Rattle.transfer.specs.declared.pair.NextAnswer.the-variants as next
 use Rattle.transfer.specs.declared.pair.NextByte.{NextByte}
 use Rattle.transfer.proofs.Steps.{pair-steps}
-use Rattle.engine.specs.Access.{accessRefusal}
-use Rattle.engine.specs.Bus.{arbitrated}
-use Rattle.engine.specs.BusCall.{Lengths, takenIn}
+use Rattle.bus_calls.specs.Access.{accessRefusal}
+use Rattle.bus_calls.specs.Bus.{arbitrated}
+use Rattle.bus_calls.specs.BusCall.{Lengths, takenIn}
 use Rattle.engine.specs.Fall.{fallen, fallRefusal, fallenState}
 use Rattle.ledger.specs.Seen.{Seen, a-write, a-fall, a-switch, a-drain, another, Reply, accepts, isFall, isDrain}
 use Rattle.ledger.specs.Ledger.{Ledger, freed, effect, paidAll, entered}

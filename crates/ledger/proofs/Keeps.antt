@@ -29,16 +29,16 @@ use Rattle.speed_switch.proofs.Sound.{switch-sound}
 use Rattle.transfer.specs.Latch.{lcdDisabledOf, retiredOf}
 use Rattle.transfer.specs.Pair.{nextByteOf, drainOf}
 use Rattle.transfer.proofs.Sound.{next-sound, drain-sound, lcd-sound, retired-sound}
-use Rattle.engine.specs.Access.{accessRefusal, writeOf}
+use Rattle.bus_calls.specs.Access.{accessRefusal, writeOf}
 use Rattle.bus.specs.Commit.{busTaken}
 use Rattle.bus.proofs.Sound.{bus-sound}
 use Rattle.bus.specs.declared.commit.BusInput.{BusInput}
-use Rattle.engine.specs.Bus.{arbitrationCallOf}
-use Rattle.engine.specs.BusCall.{Lengths, wrongLengths, busRefusal, busState}
+use Rattle.bus_calls.specs.Bus.{arbitrationCallOf}
+use Rattle.bus_calls.specs.BusCall.{Lengths, wrongLengths, busRefusal, busState}
 use Rattle.engine.specs.Fall.{fallen, fallRefusal, fallenState, fallCallOf}
 use Rattle.engine.specs.Lcd.{lcdCallOf, retiredCallOf}
 use Rattle.engine.specs.Pair.{nextPairOf, escapeDrainOf}
-use Rattle.engine.specs.Query.{stateRefusal}
+use Rattle.answers.specs.Answers.{stateRefusal}
 use Rattle.engine.specs.Speed.{defers, switchRefusal, switchCallOf, blackoutCallOf, wakeCallOf}
 use Rattle.ledger.specs.Calls
 use Rattle.ledger.specs.Calls.{Call, Outcome, step}

@@ -12,13 +12,13 @@ use Rattle.console.specs.PowerOn.{powerOnOf}
 use Rattle.console.specs.declared.Cgb.{Cgb}
 use Rattle.bus.specs.declared.commit.BusInput.{BusInput}
 use Rattle.registers.specs.declared.WriteInput.{WriteInput}
-use Rattle.engine.specs.Access.{readOf, writeOf, writeWram}
-use Rattle.engine.specs.Bus.{arbitrationCallOf, conflictCallOf}
-use Rattle.engine.specs.BusCall.{Lengths, lengthsOf, busOf, busVram, busOam}
+use Rattle.bus_calls.specs.Access.{readOf, writeOf, writeWram}
+use Rattle.bus_calls.specs.Bus.{arbitrationCallOf, conflictCallOf}
+use Rattle.bus_calls.specs.BusCall.{Lengths, lengthsOf, busOf, busVram, busOam}
 use Rattle.engine.specs.Fall.{fallCallOf}
 use Rattle.engine.specs.Lcd.{lcdCallOf, retiredCallOf}
 use Rattle.engine.specs.Pair.{nextPairOf, escapeDrainOf}
-use Rattle.engine.specs.Query.{flagOf, byteOf, tallyOf, statusOf, claimOf, parkWaits, requestStands, holdsCpu, seizesBus, switchInProgress, dividerRuns, atDoubleSpeed, cpuSteps, bankSelected, svbkWritten}
+use Rattle.queries.specs.Query.{flagOf, byteOf, tallyOf, statusOf, claimOf, parkWaits, requestStands, holdsCpu, seizesBus, switchInProgress, dividerRuns, atDoubleSpeed, cpuSteps, bankSelected, svbkWritten}
 use Rattle.engine.specs.Speed.{switchCallOf, blackoutCallOf, wakeCallOf}
 use Rattle.ledger.specs.Calls
 use Rattle.ledger.specs.Calls.{Call, Outcome, step}

@@ -14,9 +14,9 @@ use Rattle.bus.specs.declared.commit.BusInput.{BusInput}
 use Rattle.transfer.specs.Pair.{movingOf, quotaOf}
 use Rattle.transfer.specs.declared.VramDmaStatus.the-variants as dma
 use Rattle.transfer.specs.declared.pair.BytePair.{BytePair}
-use Rattle.engine.specs.BusCall.{Lengths, busRefusal, busPairs}
-use Rattle.engine.specs.Query.{statusOf}
-use Rattle.engine.specs.declared.answer.StatusAnswer.the-variants.{Status}
+use Rattle.bus_calls.specs.BusCall.{Lengths, busRefusal, busPairs}
+use Rattle.queries.specs.Query.{statusOf}
+use Rattle.answers.specs.declared.StatusAnswer.the-variants.{Status}
 use Rattle.ledger.specs.Seen.{Reply, accepts, isFall}
 use Rattle.ledger.specs.Ledger.{Ledger, empty, effect}
 use Rattle.ledger.specs.Calls.{Call, Outcome, bus-call, step, seen}

@@ -20,16 +20,16 @@ use Rattle.transfer.specs.declared.pair.BytePair.{BytePair}
 use Rattle.transfer.specs.declared.pair.NextAnswer.{NextAnswer}
 use Rattle.transfer.specs.declared.pair.NextAnswer.the-variants as next
 use Rattle.bus.specs.Deposit.{noPair}
-use Rattle.engine.specs.Access.{readSaid}
-use Rattle.engine.specs.Answers.{Said, busSays, byteSays, flagSays, tallySays, statusSays, claimSays, conflictSays}
-use Rattle.engine.specs.BusCall.{Lengths, lengthsOf, wrongLengths, busRefusal, takenIn, busPairs, busAnswer, busState, busOf}
-use Rattle.engine.specs.declared.answer.BusAnswer.the-variants.{Moved, Refused}
-use Rattle.engine.specs.declared.answer.ByteAnswer.{ByteAnswer}
-use Rattle.engine.specs.declared.answer.ClaimAnswer.{ClaimAnswer}
-use Rattle.engine.specs.declared.answer.ConflictAnswer.{ConflictAnswer}
-use Rattle.engine.specs.declared.answer.FlagAnswer.{FlagAnswer}
-use Rattle.engine.specs.declared.answer.StatusAnswer.{StatusAnswer}
-use Rattle.engine.specs.declared.answer.TallyAnswer.{TallyAnswer}
+use Rattle.bus_calls.specs.Access.{readSaid}
+use Rattle.answers.specs.Answers.{Said, busSays, byteSays, flagSays, tallySays, statusSays, claimSays, conflictSays}
+use Rattle.bus_calls.specs.BusCall.{Lengths, lengthsOf, wrongLengths, busRefusal, takenIn, busPairs, busAnswer, busState, busOf}
+use Rattle.answers.specs.declared.BusAnswer.the-variants.{Moved, Refused}
+use Rattle.answers.specs.declared.ByteAnswer.{ByteAnswer}
+use Rattle.answers.specs.declared.ClaimAnswer.{ClaimAnswer}
+use Rattle.answers.specs.declared.ConflictAnswer.{ConflictAnswer}
+use Rattle.answers.specs.declared.FlagAnswer.{FlagAnswer}
+use Rattle.answers.specs.declared.StatusAnswer.{StatusAnswer}
+use Rattle.answers.specs.declared.TallyAnswer.{TallyAnswer}
 use Rattle.ledger.specs.Calls
 use Rattle.ledger.specs.Calls.{Call, Outcome, plain, ofDone, ofFlagged, ofFell, ofArbitrated, ofHanded, ofSwitched, ofBussed, movedIn, step}
 use Rattle.ledger.specs.Code.{Returned, by-write, by-read, by-fall, by-next-pair, by-escape-drain, by-bus-call, by-switch-speed, by-lcd-off, by-retired, by-blackout, by-wake, by-arbitrate, by-conflict, by-tally, by-status, by-claim, by-park, by-request, by-holds, by-seizes, by-in-progress, by-divider, by-double-speed, by-steps, by-bank, by-svbk}

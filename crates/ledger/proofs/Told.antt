@@ -20,27 +20,28 @@ use Rattle.speed_switch.specs.declared.switch.SwitchInput.{SwitchInput}
 use Rattle.transfer.specs.Conflict.{conflictOf}
 use Rattle.transfer.specs.Pair.{nextByteOf, drainOf}
 use Rattle.transfer.specs.Questions as transfer
-use Rattle.engine.specs.Access.{accessRefusal, readOf, readSaid, writeOf, writeSaid}
-use Rattle.engine.specs.Answers.{Said, declined, accepted, saying, bitOf, doneSays, byteSays, flagSays, claimSays, tallySays, statusSays, pairSays, switchSays, arbitrationSays, conflictSays, busSays, bussedSays, doneStateSays, flaggedSays, handedSays, fellSays, switchedSays, arbitratedSays}
-use Rattle.engine.specs.Bus.{arbitrated, arbitrationAnswerOf, arbitrationValues, conflictAnswerOf, conflictValues, arbitrationCallOf, arbitrationSaid, conflictCallOf, conflictSaid}
-use Rattle.engine.specs.BusCall.{lengthsOf, takenIn, busRefusal, busAnswer, busSaid, busOf}
+use Rattle.bus_calls.specs.Access.{accessRefusal, readOf, readSaid, writeOf, writeSaid}
+use Rattle.answers.specs.Answers.{Said, declined, accepted, saying, bitOf, doneSays, byteSays, flagSays, claimSays, tallySays, statusSays, pairSays, switchSays, arbitrationSays, conflictSays, busSays, bussedSays, doneStateSays, flaggedSays, handedSays, fellSays, switchedSays, arbitratedSays, stateRefusal}
+use Rattle.bus_calls.specs.Bus.{arbitrated, arbitrationAnswerOf, arbitrationValues, conflictAnswerOf, conflictValues, arbitrationCallOf, arbitrationSaid, conflictCallOf, conflictSaid}
+use Rattle.bus_calls.specs.BusCall.{lengthsOf, takenIn, busRefusal, busAnswer, busSaid, busOf}
 use Rattle.engine.specs.Fall.{fallen, fallRefusal, fallCallOf, fallSaid}
 use Rattle.engine.specs.Lcd.{doneSaid, lcdCallOf, retiredCallOf}
 use Rattle.engine.specs.Pair.{pairAnswerOf, pairValues, nextPairOf, nextPairSaid, escapeDrainOf, escapeDrainSaid}
-use Rattle.engine.specs.Query.{stateRefusal, querySaid, flagOf, byteOf, tallyOf, tallyValues, statusOf, statusValues, claimOf, claimValues}
+use Rattle.queries.specs.Query.{querySaid, flagOf, byteOf, tallyOf, tallyValues, statusOf, statusValues, claimOf, claimValues}
 use Rattle.engine.specs.Speed.{switchRefusal, switchAnswerOf, switchValues, switchCallOf, switchSaid, blackoutCallOf, blackoutSaid, wakeCallOf, wakeSaid}
-use Rattle.engine.specs.declared.answer.ArbitrationAnswer.the-variants as arbitration
-use Rattle.engine.specs.declared.answer.BusAnswer.the-variants as moved
-use Rattle.engine.specs.declared.answer.ByteAnswer.the-variants as byte
-use Rattle.engine.specs.declared.answer.ClaimAnswer.the-variants as claim
-use Rattle.engine.specs.declared.answer.ConflictAnswer.the-variants as conflict
-use Rattle.engine.specs.declared.answer.DoneAnswer.the-variants as done
-use Rattle.engine.specs.declared.answer.FlagAnswer.the-variants as flag
-use Rattle.engine.specs.declared.answer.PairAnswer.the-variants as pair
-use Rattle.engine.specs.declared.answer.StatusAnswer.the-variants as status
-use Rattle.engine.specs.declared.answer.SwitchAnswer.the-variants as switch
-use Rattle.engine.specs.declared.answer.TallyAnswer.the-variants as tally
-use Rattle.engine.proofs.Says.{pair-said, switch-said, arbitration-said, conflict-said}
+use Rattle.answers.specs.declared.ArbitrationAnswer.the-variants as arbitration
+use Rattle.answers.specs.declared.BusAnswer.the-variants as moved
+use Rattle.answers.specs.declared.ByteAnswer.the-variants as byte
+use Rattle.answers.specs.declared.ClaimAnswer.the-variants as claim
+use Rattle.answers.specs.declared.ConflictAnswer.the-variants as conflict
+use Rattle.answers.specs.declared.DoneAnswer.the-variants as done
+use Rattle.answers.specs.declared.FlagAnswer.the-variants as flag
+use Rattle.answers.specs.declared.PairAnswer.the-variants as pair
+use Rattle.answers.specs.declared.StatusAnswer.the-variants as status
+use Rattle.answers.specs.declared.SwitchAnswer.the-variants as switch
+use Rattle.answers.specs.declared.TallyAnswer.the-variants as tally
+use Rattle.engine.proofs.Says.{pair-said, switch-said}
+use Rattle.bus_calls.proofs.Says.{arbitration-said, conflict-said}
 
 -- an answer that is accepted with these values, or refused with its number
 told :

@@ -13,28 +13,28 @@ use Rattle.fall_edge.specs.declared.FallInput.{FallInput}
 use Rattle.registers.specs.declared.WriteInput.{WriteInput}
 use Rattle.speed_switch.specs.declared.switch.SwitchInput.{SwitchInput}
 use Rattle.transfer.specs.declared.pair.BytePair.{BytePair}
-use Rattle.engine.specs.Access.{accessRefusal, writeOf}
-use Rattle.engine.specs.Answers.{Said, doneStateSays, flaggedSays, handedSays, fellSays, switchedSays, arbitratedSays, bussedSays, byteSays, flagSays, tallySays, statusSays, claimSays, conflictSays}
-use Rattle.engine.specs.Bus.{arbitrationCallOf, conflictCallOf}
-use Rattle.engine.specs.BusCall.{Lengths, busRefusal, busPairs, busState}
+use Rattle.bus_calls.specs.Access.{accessRefusal, writeOf}
+use Rattle.answers.specs.Answers.{Said, doneStateSays, flaggedSays, handedSays, fellSays, switchedSays, arbitratedSays, bussedSays, byteSays, flagSays, tallySays, statusSays, claimSays, conflictSays}
+use Rattle.bus_calls.specs.Bus.{arbitrationCallOf, conflictCallOf}
+use Rattle.bus_calls.specs.BusCall.{Lengths, busRefusal, busPairs, busState}
 use Rattle.engine.specs.Fall.{fallCallOf}
 use Rattle.engine.specs.Lcd.{lcdCallOf, retiredCallOf}
 use Rattle.engine.specs.Pair.{nextPairOf, escapeDrainOf}
-use Rattle.engine.specs.Query.{flagOf, byteOf, tallyOf, statusOf, claimOf, parkWaits, requestStands, holdsCpu, seizesBus, switchInProgress, dividerRuns, atDoubleSpeed, cpuSteps, bankSelected, svbkWritten}
+use Rattle.queries.specs.Query.{flagOf, byteOf, tallyOf, statusOf, claimOf, parkWaits, requestStands, holdsCpu, seizesBus, switchInProgress, dividerRuns, atDoubleSpeed, cpuSteps, bankSelected, svbkWritten}
 use Rattle.engine.specs.Speed.{switchCallOf, blackoutCallOf, wakeCallOf}
-use Rattle.engine.specs.declared.answer.Arbitrated.{Arbitrated}
-use Rattle.engine.specs.declared.answer.BusAnswer.{BusAnswer}
-use Rattle.engine.specs.declared.answer.BusAnswer.the-variants as bus
-use Rattle.engine.specs.declared.answer.Bussed.{Bussed}
-use Rattle.engine.specs.declared.answer.Done.{Done}
-use Rattle.engine.specs.declared.answer.Fell.{Fell}
-use Rattle.engine.specs.declared.answer.Flagged.{Flagged}
-use Rattle.engine.specs.declared.answer.Handed.{Handed}
-use Rattle.engine.specs.declared.answer.PairAnswer.{PairAnswer}
-use Rattle.engine.specs.declared.answer.PairAnswer.the-variants as pair
-use Rattle.engine.specs.declared.answer.SwitchAnswer.{SwitchAnswer}
-use Rattle.engine.specs.declared.answer.SwitchAnswer.the-variants as switch
-use Rattle.engine.specs.declared.answer.Switched.{Switched}
+use Rattle.answers.specs.declared.Arbitrated.{Arbitrated}
+use Rattle.answers.specs.declared.BusAnswer.{BusAnswer}
+use Rattle.answers.specs.declared.BusAnswer.the-variants as bus
+use Rattle.answers.specs.declared.Bussed.{Bussed}
+use Rattle.answers.specs.declared.Done.{Done}
+use Rattle.answers.specs.declared.Fell.{Fell}
+use Rattle.answers.specs.declared.Flagged.{Flagged}
+use Rattle.answers.specs.declared.Handed.{Handed}
+use Rattle.answers.specs.declared.PairAnswer.{PairAnswer}
+use Rattle.answers.specs.declared.PairAnswer.the-variants as pair
+use Rattle.answers.specs.declared.SwitchAnswer.{SwitchAnswer}
+use Rattle.answers.specs.declared.SwitchAnswer.the-variants as switch
+use Rattle.answers.specs.declared.Switched.{Switched}
 use Rattle.ledger.specs.Seen.{Seen, a-write, a-fall, a-switch, a-drain, another, Reply}
 
 -- what is asked of the state and changes nothing

@@ -14,10 +14,10 @@ use Rattle.bus.specs.Deposit.{phaseOf, deposited}
 use Rattle.bus.specs.Store.{oamWith}
 use Rattle.bus.specs.declared.commit.BusInput.{BusInput}
 use Rattle.transfer.specs.declared.pair.BytePair.{BytePair}
-use Rattle.engine.specs.BusCall.{Lengths, busAnswer, busVram}
+use Rattle.bus_calls.specs.BusCall.{Lengths, busAnswer, busVram}
 use Rattle.engine.specs.Speed.{switchCallOf}
-use Rattle.engine.specs.declared.answer.BusAnswer.the-variants as bus
-use Rattle.engine.specs.declared.answer.SwitchAnswer.the-variants as switched
+use Rattle.answers.specs.declared.BusAnswer.the-variants as bus
+use Rattle.answers.specs.declared.SwitchAnswer.the-variants as switched
 use Rattle.speed_switch.specs.declared.switch.SwitchInput.{SwitchInput}
 use Rattle.ledger.specs.Ledger.{Ledger, empty, entered}
 use Rattle.ledger.specs.Calls.{Call, write, read, fall, next-pair, escape-drain, bus-call, switch-speed, lcd-off, retired, blackout, wake, arbitrate, conflict, query, step, seen}

@@ -1,5 +1,5 @@
--- Runs of the public functions: what each may return, by its own contract. A line for each `pub fn` of the crate `engine`
--- (the test command compares the two lists), with slices of any contents.
+-- Runs of the public functions: what each may return, by its own contract. A line for each `pub fn` of the crates
+-- `engine`, `bus_calls` and `queries` (the test command compares the lists), with slices of any contents.
 use Prim.Native.Nat.{ℕ}
 use mathlib.Core.Bool.{Bool}
 use mathlib.Core.List.{List}
@@ -15,35 +15,35 @@ use Rattle.bus.specs.declared.commit.BusInput.{BusInput}
 use Rattle.fall_edge.specs.declared.FallInput.{FallInput}
 use Rattle.registers.specs.declared.WriteInput.{WriteInput}
 use Rattle.speed_switch.specs.declared.switch.SwitchInput.{SwitchInput}
-use Rattle.engine.specs.Answers.{byteSays, flagSays, tallySays, statusSays, claimSays, conflictSays}
-use Rattle.engine.specs.BusCall.{lengthsOf}
-use Rattle.engine.specs.declared.answer.Arbitrated.{Arbitrated}
-use Rattle.engine.specs.declared.answer.Bussed.{Bussed}
-use Rattle.engine.specs.declared.answer.ByteAnswer.{ByteAnswer}
-use Rattle.engine.specs.declared.answer.ClaimAnswer.{ClaimAnswer}
-use Rattle.engine.specs.declared.answer.ConflictAnswer.{ConflictAnswer}
-use Rattle.engine.specs.declared.answer.Done.{Done}
-use Rattle.engine.specs.declared.answer.Fell.{Fell}
-use Rattle.engine.specs.declared.answer.FlagAnswer.{FlagAnswer}
-use Rattle.engine.specs.declared.answer.Flagged.{Flagged}
-use Rattle.engine.specs.declared.answer.Handed.{Handed}
-use Rattle.engine.specs.declared.answer.StatusAnswer.{StatusAnswer}
-use Rattle.engine.specs.declared.answer.Switched.{Switched}
-use Rattle.engine.specs.declared.answer.TallyAnswer.{TallyAnswer}
+use Rattle.answers.specs.Answers.{byteSays, flagSays, tallySays, statusSays, claimSays, conflictSays}
+use Rattle.bus_calls.specs.BusCall.{lengthsOf}
+use Rattle.answers.specs.declared.Arbitrated.{Arbitrated}
+use Rattle.answers.specs.declared.Bussed.{Bussed}
+use Rattle.answers.specs.declared.ByteAnswer.{ByteAnswer}
+use Rattle.answers.specs.declared.ClaimAnswer.{ClaimAnswer}
+use Rattle.answers.specs.declared.ConflictAnswer.{ConflictAnswer}
+use Rattle.answers.specs.declared.Done.{Done}
+use Rattle.answers.specs.declared.Fell.{Fell}
+use Rattle.answers.specs.declared.FlagAnswer.{FlagAnswer}
+use Rattle.answers.specs.declared.Flagged.{Flagged}
+use Rattle.answers.specs.declared.Handed.{Handed}
+use Rattle.answers.specs.declared.StatusAnswer.{StatusAnswer}
+use Rattle.answers.specs.declared.Switched.{Switched}
+use Rattle.answers.specs.declared.TallyAnswer.{TallyAnswer}
 use Rattle.engine.proofs.power_on.Kinds as power-on-kinds
 use Rattle.engine.proofs.power_on.Reads as power-on-reads
-use Rattle.engine.proofs.access.write.Kinds as write-kinds
-use Rattle.engine.proofs.access.write.Reads as write-reads
-use Rattle.engine.proofs.access.read.Kinds as read-kinds
-use Rattle.engine.proofs.access.read.Reads as read-reads
+use Rattle.bus_calls.proofs.access.write.Kinds as write-kinds
+use Rattle.bus_calls.proofs.access.write.Reads as write-reads
+use Rattle.bus_calls.proofs.access.read.Kinds as read-kinds
+use Rattle.bus_calls.proofs.access.read.Reads as read-reads
 use Rattle.engine.proofs.fall.vram_dma_fall_edge.Kinds as vram-dma-fall-edge-kinds
 use Rattle.engine.proofs.fall.vram_dma_fall_edge.Reads as vram-dma-fall-edge-reads
 use Rattle.engine.proofs.pair.next_byte.Kinds as next-byte-kinds
 use Rattle.engine.proofs.pair.next_byte.Reads as next-byte-reads
 use Rattle.engine.proofs.pair.vram_dma_drain_escape.Kinds as vram-dma-drain-escape-kinds
 use Rattle.engine.proofs.pair.vram_dma_drain_escape.Reads as vram-dma-drain-escape-reads
-use Rattle.engine.proofs.bus_call.vram_dma_commit_bytes.Kinds as vram-dma-commit-bytes-kinds
-use Rattle.engine.proofs.bus_call.vram_dma_commit_bytes.Reads as vram-dma-commit-bytes-reads
+use Rattle.bus_calls.proofs.bus_call.vram_dma_commit_bytes.Kinds as vram-dma-commit-bytes-kinds
+use Rattle.bus_calls.proofs.bus_call.vram_dma_commit_bytes.Reads as vram-dma-commit-bytes-reads
 use Rattle.engine.proofs.speed.attempt_speed_switch.Kinds as attempt-speed-switch-kinds
 use Rattle.engine.proofs.speed.attempt_speed_switch.Reads as attempt-speed-switch-reads
 use Rattle.engine.proofs.lcd.vram_dma_lcd_disabled.Kinds as vram-dma-lcd-disabled-kinds
@@ -54,36 +54,36 @@ use Rattle.engine.proofs.speed.drain_speed_switch_blackout.Kinds as drain-speed
 use Rattle.engine.proofs.speed.drain_speed_switch_blackout.Reads as drain-speed-switch-blackout-reads
 use Rattle.engine.proofs.speed.speed_switch_wake_ready.Kinds as speed-switch-wake-ready-kinds
 use Rattle.engine.proofs.speed.speed_switch_wake_ready.Reads as speed-switch-wake-ready-reads
-use Rattle.engine.proofs.shared_bus.vram_dma_arbitrate_oam.Kinds as vram-dma-arbitrate-oam-kinds
-use Rattle.engine.proofs.shared_bus.vram_dma_arbitrate_oam.Reads as vram-dma-arbitrate-oam-reads
-use Rattle.engine.proofs.shared_bus.vram_dma_conflict_source.Kinds as vram-dma-conflict-source-kinds
-use Rattle.engine.proofs.shared_bus.vram_dma_conflict_source.Reads as vram-dma-conflict-source-reads
-use Rattle.engine.proofs.query.tally.Kinds as tally-kinds
-use Rattle.engine.proofs.query.tally.Reads as tally-reads
-use Rattle.engine.proofs.query.vram_dma_status.Kinds as vram-dma-status-kinds
-use Rattle.engine.proofs.query.vram_dma_status.Reads as vram-dma-status-reads
-use Rattle.engine.proofs.query.vram_dma_claim.Kinds as vram-dma-claim-kinds
-use Rattle.engine.proofs.query.vram_dma_claim.Reads as vram-dma-claim-reads
-use Rattle.engine.proofs.query.vram_dma_park_waits_for_fetch.Kinds as vram-dma-park-waits-for-fetch-kinds
-use Rattle.engine.proofs.query.vram_dma_park_waits_for_fetch.Reads as vram-dma-park-waits-for-fetch-reads
-use Rattle.engine.proofs.query.vram_dma_request_standing.Kinds as vram-dma-request-standing-kinds
-use Rattle.engine.proofs.query.vram_dma_request_standing.Reads as vram-dma-request-standing-reads
-use Rattle.engine.proofs.query.vram_dma_holds_cpu.Kinds as vram-dma-holds-cpu-kinds
-use Rattle.engine.proofs.query.vram_dma_holds_cpu.Reads as vram-dma-holds-cpu-reads
-use Rattle.engine.proofs.query.vram_dma_seizes_bus.Kinds as vram-dma-seizes-bus-kinds
-use Rattle.engine.proofs.query.vram_dma_seizes_bus.Reads as vram-dma-seizes-bus-reads
-use Rattle.engine.proofs.query.speed_switch_in_progress.Kinds as speed-switch-in-progress-kinds
-use Rattle.engine.proofs.query.speed_switch_in_progress.Reads as speed-switch-in-progress-reads
-use Rattle.engine.proofs.query.speed_switch_divider_active.Kinds as speed-switch-divider-active-kinds
-use Rattle.engine.proofs.query.speed_switch_divider_active.Reads as speed-switch-divider-active-reads
-use Rattle.engine.proofs.query.double_speed.Kinds as double-speed-kinds
-use Rattle.engine.proofs.query.double_speed.Reads as double-speed-reads
-use Rattle.engine.proofs.query.cpu_steps_per_dot.Kinds as cpu-steps-per-dot-kinds
-use Rattle.engine.proofs.query.cpu_steps_per_dot.Reads as cpu-steps-per-dot-reads
-use Rattle.engine.proofs.query.wram_bank.Kinds as wram-bank-kinds
-use Rattle.engine.proofs.query.wram_bank.Reads as wram-bank-reads
-use Rattle.engine.proofs.query.svbk_register.Kinds as svbk-register-kinds
-use Rattle.engine.proofs.query.svbk_register.Reads as svbk-register-reads
+use Rattle.bus_calls.proofs.shared_bus.vram_dma_arbitrate_oam.Kinds as vram-dma-arbitrate-oam-kinds
+use Rattle.bus_calls.proofs.shared_bus.vram_dma_arbitrate_oam.Reads as vram-dma-arbitrate-oam-reads
+use Rattle.bus_calls.proofs.shared_bus.vram_dma_conflict_source.Kinds as vram-dma-conflict-source-kinds
+use Rattle.bus_calls.proofs.shared_bus.vram_dma_conflict_source.Reads as vram-dma-conflict-source-reads
+use Rattle.queries.proofs.tally.Kinds as tally-kinds
+use Rattle.queries.proofs.tally.Reads as tally-reads
+use Rattle.queries.proofs.vram_dma_status.Kinds as vram-dma-status-kinds
+use Rattle.queries.proofs.vram_dma_status.Reads as vram-dma-status-reads
+use Rattle.queries.proofs.vram_dma_claim.Kinds as vram-dma-claim-kinds
+use Rattle.queries.proofs.vram_dma_claim.Reads as vram-dma-claim-reads
+use Rattle.queries.proofs.vram_dma_park_waits_for_fetch.Kinds as vram-dma-park-waits-for-fetch-kinds
+use Rattle.queries.proofs.vram_dma_park_waits_for_fetch.Reads as vram-dma-park-waits-for-fetch-reads
+use Rattle.queries.proofs.vram_dma_request_standing.Kinds as vram-dma-request-standing-kinds
+use Rattle.queries.proofs.vram_dma_request_standing.Reads as vram-dma-request-standing-reads
+use Rattle.queries.proofs.vram_dma_holds_cpu.Kinds as vram-dma-holds-cpu-kinds
+use Rattle.queries.proofs.vram_dma_holds_cpu.Reads as vram-dma-holds-cpu-reads
+use Rattle.queries.proofs.vram_dma_seizes_bus.Kinds as vram-dma-seizes-bus-kinds
+use Rattle.queries.proofs.vram_dma_seizes_bus.Reads as vram-dma-seizes-bus-reads
+use Rattle.queries.proofs.speed_switch_in_progress.Kinds as speed-switch-in-progress-kinds
+use Rattle.queries.proofs.speed_switch_in_progress.Reads as speed-switch-in-progress-reads
+use Rattle.queries.proofs.speed_switch_divider_active.Kinds as speed-switch-divider-active-kinds
+use Rattle.queries.proofs.speed_switch_divider_active.Reads as speed-switch-divider-active-reads
+use Rattle.queries.proofs.double_speed.Kinds as double-speed-kinds
+use Rattle.queries.proofs.double_speed.Reads as double-speed-reads
+use Rattle.queries.proofs.cpu_steps_per_dot.Kinds as cpu-steps-per-dot-kinds
+use Rattle.queries.proofs.cpu_steps_per_dot.Reads as cpu-steps-per-dot-reads
+use Rattle.queries.proofs.wram_bank.Kinds as wram-bank-kinds
+use Rattle.queries.proofs.wram_bank.Reads as wram-bank-reads
+use Rattle.queries.proofs.svbk_register.Kinds as svbk-register-kinds
+use Rattle.queries.proofs.svbk_register.Reads as svbk-register-reads
 use Rattle.ledger.specs.Calls
 use Rattle.ledger.specs.Calls.{Call, Outcome, plain, ofDone, ofFlagged, ofFell, ofArbitrated, ofHanded, ofSwitched, ofBussed}
 

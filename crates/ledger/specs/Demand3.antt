@@ -12,9 +12,9 @@ use Rattle.bus.specs.declared.commit.BusInput.{BusInput}
 use Rattle.transfer.specs.Pair.{leftAfter}
 use Rattle.transfer.specs.declared.VramDmaStatus.the-variants as dma
 use Rattle.transfer.specs.declared.pair.BytePair.{BytePair}
-use Rattle.engine.specs.BusCall.{Lengths}
-use Rattle.engine.specs.Query.{statusOf, atDoubleSpeed}
-use Rattle.engine.specs.declared.answer.StatusAnswer.the-variants.{Status}
+use Rattle.bus_calls.specs.BusCall.{Lengths}
+use Rattle.queries.specs.Query.{statusOf, atDoubleSpeed}
+use Rattle.answers.specs.declared.StatusAnswer.the-variants.{Status}
 use Rattle.ledger.specs.Seen.{Reply, accepts, isFall, isDrain}
 use Rattle.ledger.specs.Ledger.{Ledger, empty, due, paid, effect, entered}
 use Rattle.ledger.specs.Calls.{Call, Outcome, bus-call, seen}

@@ -1,16 +1,16 @@
 // The public calls with the inputs that the cases leave alone, and lines for what they answer.
 use crate::say;
+use answers::Fell;
+use answers::Handed;
 use bus::arbitration::ArbitrationInput;
 use console::Cgb;
-use engine::answer::Fell;
-use engine::answer::Handed;
 use fall_edge::FallInput;
 use registers::WriteInput;
 use speed_switch::switch::SwitchInput;
 
 fn write(state: Cgb, address: u16, input: WriteInput) -> Cgb {
     let mut wram = [0u8; 32768];
-    engine::access::write(state, &mut wram, address, input).state
+    bus_calls::access::write(state, &mut wram, address, input).state
 }
 
 // A register write with the LCD on.
@@ -38,11 +38,11 @@ pub fn set_in_the_dark(state: Cgb, address: u16, value: u8) -> Cgb {
 
 pub fn read(label: &[u8], state: Cgb, address: u16) {
     let wram = [0u8; 32768];
-    say::byte(label, engine::access::read(state, &wram, address));
+    say::byte(label, bus_calls::access::read(state, &wram, address));
 }
 
 pub fn tally(label: &[u8], state: Cgb) {
-    say::tally(label, engine::query::tally(state));
+    say::tally(label, queries::tally(state));
 }
 
 // A fall, running or halted, with nothing else going on.
@@ -85,7 +85,7 @@ pub fn arbitrate(label: &[u8], state: Cgb) -> Cgb {
         suspended: false,
         oam_transferring: true,
     };
-    let arbitrated = engine::shared_bus::vram_dma_arbitrate_oam(state, input);
+    let arbitrated = bus_calls::shared_bus::vram_dma_arbitrate_oam(state, input);
     let answer = arbitrated.answer;
     say::arbitrated(label, answer);
     arbitrated.state

@@ -1,13 +1,13 @@
 // Lines of text: a label and what an answer says.
-use engine::answer::ArbitrationAnswer;
-use engine::answer::BusAnswer;
-use engine::answer::ByteAnswer;
-use engine::answer::ClaimAnswer;
-use engine::answer::DoneAnswer;
-use engine::answer::FlagAnswer;
-use engine::answer::PairAnswer;
-use engine::answer::SwitchAnswer;
-use engine::answer::TallyAnswer;
+use answers::ArbitrationAnswer;
+use answers::BusAnswer;
+use answers::ByteAnswer;
+use answers::ClaimAnswer;
+use answers::DoneAnswer;
+use answers::FlagAnswer;
+use answers::PairAnswer;
+use answers::SwitchAnswer;
+use answers::TallyAnswer;
 use libc::STDOUT_FILENO;
 use memory::byte_at;
 use transfer::pair::BytePair;

@@ -22,7 +22,7 @@ use Rattle.registers.specs.Write.{stateAt, withSource, withDest, mapWriteOf, st
 use Rattle.registers.specs.declared.WriteInput.{WriteInput}
 use Rattle.hdma.proofs.Written.{keeps, arms, disarms, starts}
 use Rattle.registers.proofs.Places.{at-d}
-use Rattle.engine.specs.Access.{readOf, writeOf, accessRefusal}
+use Rattle.bus_calls.specs.Access.{readOf, writeOf, accessRefusal}
 use Rattle.engine.specs.Fall.{fallCallOf, fallRefusal, fallenState}
 use Rattle.engine.specs.Speed.{defers, switchRefusal, switchCallOf}
 use Rattle.fall_edge.specs.View.{viewOf}
@@ -32,8 +32,8 @@ use Rattle.fall_edge.specs.Fall.{fallOf, ranOf, decidedOf, servedOf}
 use Rattle.transfer.specs.Pair.{movingOf}
 use Rattle.speed_switch.specs.Switch.{switchedOf, blackoutOf}
 use Rattle.speed_switch.specs.declared.switch.SwitchInput.{SwitchInput}
-use Rattle.engine.specs.declared.answer.ByteAnswer.the-variants.{Byte}
-use Rattle.engine.proofs.Accepted.{read-accepted, write-unlocked}
+use Rattle.answers.specs.declared.ByteAnswer.the-variants.{Byte}
+use Rattle.bus_calls.proofs.Accepted.{read-accepted, write-unlocked}
 use Rattle.pan_docs.specs.PanDocs as pan
 use Rattle.pan_docs.specs.Agreement.{CgbMode, Whole, after, Reads, Agreement, Difference}
 use Rattle.pan_docs.proofs.Bits as bits

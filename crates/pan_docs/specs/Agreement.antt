@@ -14,11 +14,11 @@ use Rattle.console.specs.declared.vram_dma.TransferMode.the-variants as mode
 use Rattle.memory.specs.Lengths.{wramLength}
 use Rattle.transfer.specs.Questions.{writeAddress}
 use Rattle.estimate.specs.Estimate.{estimateOf}
-use Rattle.engine.specs.Access.{readOf, writeOf}
+use Rattle.bus_calls.specs.Access.{readOf, writeOf}
 use Rattle.engine.specs.Fall.{fallCallOf}
 use Rattle.engine.specs.Speed.{switchRefusal, switchCallOf}
-use Rattle.engine.specs.declared.answer.ByteAnswer.the-variants.{Byte}
-use Rattle.engine.specs.declared.answer.SwitchAnswer.the-variants.{Refused}
+use Rattle.answers.specs.declared.ByteAnswer.the-variants.{Byte}
+use Rattle.answers.specs.declared.SwitchAnswer.the-variants.{Refused}
 use Rattle.fall_edge.specs.declared.FallInput.{FallInput}
 use Rattle.speed_switch.specs.declared.switch.SwitchInput.{SwitchInput}
 use Rattle.registers.specs.Map as port

@@ -8,14 +8,14 @@ use Rattle.console.specs.declared.Cgb.{Cgb}
 use Rattle.bus.specs.Deposit.{noPair}
 use Rattle.bus.specs.declared.commit.BusInput.{BusInput}
 use Rattle.registers.specs.declared.WriteInput.{WriteInput}
-use Rattle.engine.specs.Access.{readSaid, writeOf, writeSaid, writeWram}
-use Rattle.engine.specs.Answers.{Said, doneStateSays, flaggedSays, handedSays, fellSays, switchedSays, arbitratedSays, byteSays, flagSays, tallySays, statusSays, claimSays, conflictSays}
-use Rattle.engine.specs.Bus.{arbitrationCallOf, conflictCallOf}
-use Rattle.engine.specs.BusCall.{lengthsOf, busOf, busSaid, busVram, busOam}
+use Rattle.bus_calls.specs.Access.{readSaid, writeOf, writeSaid, writeWram}
+use Rattle.answers.specs.Answers.{Said, doneStateSays, flaggedSays, handedSays, fellSays, switchedSays, arbitratedSays, byteSays, flagSays, tallySays, statusSays, claimSays, conflictSays}
+use Rattle.bus_calls.specs.Bus.{arbitrationCallOf, conflictCallOf}
+use Rattle.bus_calls.specs.BusCall.{lengthsOf, busOf, busSaid, busVram, busOam}
 use Rattle.engine.specs.Fall.{fallCallOf}
 use Rattle.engine.specs.Lcd.{lcdCallOf, retiredCallOf}
 use Rattle.engine.specs.Pair.{nextPairOf, escapeDrainOf}
-use Rattle.engine.specs.Query.{flagOf, byteOf, tallyOf, statusOf, claimOf, parkWaits, requestStands, holdsCpu, seizesBus, switchInProgress, dividerRuns, atDoubleSpeed, cpuSteps, bankSelected, svbkWritten}
+use Rattle.queries.specs.Query.{flagOf, byteOf, tallyOf, statusOf, claimOf, parkWaits, requestStands, holdsCpu, seizesBus, switchInProgress, dividerRuns, atDoubleSpeed, cpuSteps, bankSelected, svbkWritten}
 use Rattle.engine.specs.Speed.{switchCallOf, blackoutCallOf, wakeCallOf}
 use Rattle.perform.specs.Told.{toldOf}
 use Rattle.perform.specs.declared.call.Call.{Call}

@@ -1,9 +1,9 @@
 -- What an answer says, as numbers for a caller in another language: its number, then its values in the order of
--- engine/specs/Answers, the spare ones 0.
+-- answers/specs/Answers, the spare ones 0.
 use Prim.Native.Nat.{ℕ}
 use mathlib.Core.List.{List}
 use lib.ListN.{getD}
-use Rattle.engine.specs.Answers.{Said}
+use Rattle.answers.specs.Answers.{Said}
 use Rattle.perform.specs.declared.told.Told.{Told}
 
 abbrev pub toldOf : Said → Told

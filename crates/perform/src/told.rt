@@ -1,19 +1,19 @@
 // What an answer says, as numbers: the refusal or 0, then up to four values in the order of the
-// definitions (engine/specs/Answers).
+// definitions (answers/specs/Answers).
 ghost use mathlib.Core.Path.{_≡_};
-ghost use Rattle.engine.specs.Answers.{bitOf, doneSays, byteSays, flagSays, claimSays, tallySays, pairSays, switchSays, arbitrationSays, conflictSays, busSays, statusSays, modeSays, accepted};
+ghost use Rattle.answers.specs.Answers.{bitOf, doneSays, byteSays, flagSays, claimSays, tallySays, pairSays, switchSays, arbitrationSays, conflictSays, busSays, statusSays, modeSays, accepted};
 ghost use Rattle.perform.specs.Told.{toldOf, toldRefused, toldValues};
-use engine::answer::ArbitrationAnswer;
-use engine::answer::BusAnswer;
-use engine::answer::ByteAnswer;
-use engine::answer::ClaimAnswer;
-use engine::answer::ConflictAnswer;
-use engine::answer::DoneAnswer;
-use engine::answer::FlagAnswer;
-use engine::answer::PairAnswer;
-use engine::answer::StatusAnswer;
-use engine::answer::SwitchAnswer;
-use engine::answer::TallyAnswer;
+use answers::ArbitrationAnswer;
+use answers::BusAnswer;
+use answers::ByteAnswer;
+use answers::ClaimAnswer;
+use answers::ConflictAnswer;
+use answers::DoneAnswer;
+use answers::FlagAnswer;
+use answers::PairAnswer;
+use answers::StatusAnswer;
+use answers::SwitchAnswer;
+use answers::TallyAnswer;
 use transfer::VramDmaStatus;
 
 pub struct Told {

@@ -36,7 +36,7 @@ fn quiet(told: Told, state: Cgb) -> Performed
 pub fn write(state: Cgb, wram: &mut [u8], address: u16, input: WriteInput) -> Performed
     ensures { λ r. ⌜ Wrote state input address (now (wram .entry)) r (now (wram .exit)) ⌝ }
 {
-    let done = engine::access::write(state, wram, address, input);
+    let done = bus_calls::access::write(state, wram, address, input);
     let answer = done.answer;
     let after = done.state;
     quiet(told::of_done(answer), after)
@@ -45,7 +45,7 @@ pub fn write(state: Cgb, wram: &mut [u8], address: u16, input: WriteInput) -> Pe
 pub fn read(state: Cgb, wram: &[u8], address: u16) -> Performed
     ensures { λ r. ⌜ r ≡ readOf state (now (wram .entry)) address ⌝ }
 {
-    let answer = engine::access::read(state, wram, address);
+    let answer = bus_calls::access::read(state, wram, address);
     quiet(told::of_byte(answer), state)
 }
 
@@ -60,7 +60,14 @@ pub fn bus(
     ensures { λ r. ⌜ Bused state input (now (cartridge .entry)) (now (wram .entry)) (now (vram .entry)) (now (oam .entry))
         r (now (vram .exit)) (now (oam .exit)) ⌝ }
 {
-    let bussed = engine::bus_call::vram_dma_commit_bytes(state, input, cartridge, wram, vram, oam);
+    let bussed = bus_calls::bus_call::vram_dma_commit_bytes(
+        state,
+        input,
+        cartridge,
+        wram,
+        vram,
+        oam,
+    );
     let answer = bussed.answer;
     let pairs = bussed.pairs;
     let bytes = bussed.bytes;
@@ -148,7 +155,7 @@ fn wake(state: Cgb, boundary: bool) -> Performed
 fn arbitrated(state: Cgb, input: ArbitrationInput) -> Performed
     ensures { λ r. ⌜ r ≡ plainOf state (PlainCall.Arbitrate input) ⌝ }
 {
-    let done = engine::shared_bus::vram_dma_arbitrate_oam(state, input);
+    let done = bus_calls::shared_bus::vram_dma_arbitrate_oam(state, input);
     let answer = done.answer;
     let after = done.state;
     quiet(told::of_arbitration(answer), after)
@@ -157,7 +164,7 @@ fn arbitrated(state: Cgb, input: ArbitrationInput) -> Performed
 fn conflict(state: Cgb, address: u16) -> Performed
     ensures { λ r. ⌜ r ≡ plainOf state (PlainCall.Conflict address) ⌝ }
 {
-    let answer = engine::shared_bus::vram_dma_conflict_source(state, address);
+    let answer = bus_calls::shared_bus::vram_dma_conflict_source(state, address);
     quiet(told::of_conflict(answer), state)
 }
 

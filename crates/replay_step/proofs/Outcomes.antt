@@ -6,8 +6,8 @@ use lib.ListN.{length}
 use Rattle.console.specs.declared.Cgb.{Cgb}
 use Rattle.transfer.specs.declared.pair.BytePair.{BytePair}
 use Rattle.transfer.specs.declared.pair.NextAnswer.the-variants as next
-use Rattle.engine.specs.declared.answer.PairAnswer.{PairAnswer}
-use Rattle.engine.specs.declared.answer.PairAnswer.the-variants as pair
+use Rattle.answers.specs.declared.PairAnswer.{PairAnswer}
+use Rattle.answers.specs.declared.PairAnswer.the-variants as pair
 use Rattle.replay_step.specs.Step.{pairNumber, pairIn, line, lineOf, pairLineOf, stepOf, wramOf, Performed}
 use Rattle.replay_step.specs.declared.record.Record.{Record}
 use Rattle.replay_step.specs.declared.step.Stepped.{Stepped}

@@ -6,18 +6,18 @@ use mathlib.Core.List.{List}
 use lib.ListN.{length}
 use Rattle.console.specs.declared.Cgb.{Cgb}
 use Rattle.hdma.specs.Hdma5.{statusByte}
-use Rattle.engine.specs.Access.{writeOf, writeWram}
-use Rattle.engine.specs.Answers.{doneSays, claimSays, flagSays, pairSays, switchSays}
+use Rattle.bus_calls.specs.Access.{writeOf, writeWram}
+use Rattle.answers.specs.Answers.{doneSays, claimSays, flagSays, pairSays, switchSays}
 use Rattle.engine.specs.Fall.{fallCallOf}
 use Rattle.engine.specs.Lcd.{lcdCallOf}
 use Rattle.engine.specs.Pair.{nextPairOf, escapeDrainOf}
 use Rattle.engine.specs.Speed.{switchCallOf, blackoutCallOf}
-use Rattle.engine.specs.declared.answer.ClaimAnswer.{ClaimAnswer}
-use Rattle.engine.specs.declared.answer.DoneAnswer.{DoneAnswer}
-use Rattle.engine.specs.declared.answer.FlagAnswer.{FlagAnswer}
-use Rattle.engine.specs.declared.answer.PairAnswer.{PairAnswer}
-use Rattle.engine.specs.declared.answer.PairAnswer.the-variants as pair
-use Rattle.engine.specs.declared.answer.SwitchAnswer.{SwitchAnswer}
+use Rattle.answers.specs.declared.ClaimAnswer.{ClaimAnswer}
+use Rattle.answers.specs.declared.DoneAnswer.{DoneAnswer}
+use Rattle.answers.specs.declared.FlagAnswer.{FlagAnswer}
+use Rattle.answers.specs.declared.PairAnswer.{PairAnswer}
+use Rattle.answers.specs.declared.PairAnswer.the-variants as pair
+use Rattle.answers.specs.declared.SwitchAnswer.{SwitchAnswer}
 use Rattle.transfer.specs.declared.pair.NextAnswer.{NextAnswer}
 use Rattle.transfer.specs.declared.pair.NextAnswer.the-variants as next
 use Rattle.replay_step.specs.declared.record.Record.{Record}

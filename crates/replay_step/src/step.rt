@@ -2,13 +2,13 @@
 ghost use mathlib.Core.Path.{_≡_};
 ghost use Rattle.replay_step.specs.Step.{doneNumber, claimNumber, flagNumber, switchNumber, pairNumber, pairIn, lineOf, pairLineOf, stepOf, Performed};
 use crate::record::Record;
+use answers::ClaimAnswer;
+use answers::DoneAnswer;
+use answers::FlagAnswer;
+use answers::PairAnswer;
+use answers::SwitchAnswer;
 use console::Cgb;
 use console::same;
-use engine::answer::ClaimAnswer;
-use engine::answer::DoneAnswer;
-use engine::answer::FlagAnswer;
-use engine::answer::PairAnswer;
-use engine::answer::SwitchAnswer;
 use fall_edge::FallInput;
 use registers::WriteInput;
 use speed_switch::switch::SwitchInput;
@@ -136,7 +136,7 @@ fn handed(state: Cgb, answer: PairAnswer) -> Stepped
 fn written(state: Cgb, wram: &mut [u8], address: u16, input: WriteInput) -> Stepped
     ensures { λ r. ⌜ Performed state (now (wram .entry)) (Record.Write address input) r (now (wram .exit)) ⌝ }
 {
-    let done = engine::access::write(state, wram, address, input);
+    let done = bus_calls::access::write(state, wram, address, input);
     let answer = done.answer;
     let after = done.state;
     quiet(after, done_number(answer))

@@ -2,10 +2,10 @@
 use crate::call;
 use crate::fields;
 use crate::lent;
+use answers::BusAnswer;
+use answers::Bussed;
 use bus::commit::BusInput;
 use console::Cgb;
-use engine::answer::BusAnswer;
-use engine::answer::Bussed;
 use transfer::pair::BytePair;
 
 // The answer's bytes behind the first eight.
@@ -94,7 +94,7 @@ fn bus_call(
         fields::four(record[28], record[29], record[30], record[31]),
         oam.len(),
     );
-    engine::bus_call::vram_dma_commit_bytes(
+    bus_calls::bus_call::vram_dma_commit_bytes(
         s,
         input,
         &cartridge[0..c],

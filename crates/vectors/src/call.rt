@@ -3,18 +3,18 @@
 use crate::bus_vector;
 use crate::fields;
 use crate::lent;
+use answers::ArbitrationAnswer;
+use answers::ByteAnswer;
+use answers::ClaimAnswer;
+use answers::ConflictAnswer;
+use answers::DoneAnswer;
+use answers::FlagAnswer;
+use answers::PairAnswer;
+use answers::StatusAnswer;
+use answers::SwitchAnswer;
+use answers::TallyAnswer;
 use bus::arbitration::ArbitrationInput;
 use console::Cgb;
-use engine::answer::ArbitrationAnswer;
-use engine::answer::ByteAnswer;
-use engine::answer::ClaimAnswer;
-use engine::answer::ConflictAnswer;
-use engine::answer::DoneAnswer;
-use engine::answer::FlagAnswer;
-use engine::answer::PairAnswer;
-use engine::answer::StatusAnswer;
-use engine::answer::SwitchAnswer;
-use engine::answer::TallyAnswer;
 use fall_edge::FallInput;
 use memory::byte_at;
 use registers::WriteInput;
@@ -257,7 +257,7 @@ fn arbitrate(s: Cgb, record: &[u8; 576]) -> Outcome {
         suspended: record[5] / 2 % 2 == 1,
         oam_transferring: record[5] / 4 % 2 == 1,
     };
-    let r = engine::shared_bus::vram_dma_arbitrate_oam(s, input);
+    let r = bus_calls::shared_bus::vram_dma_arbitrate_oam(s, input);
     let answer = r.answer;
     let state = r.state;
     Outcome {
@@ -270,23 +270,23 @@ fn arbitrate(s: Cgb, record: &[u8; 576]) -> Outcome {
 fn query(s: Cgb, record: &[u8; 576]) -> [u8; 8] {
     let kind = record[0];
     match kind {
-        11 => conflict(engine::shared_bus::vram_dma_conflict_source(
+        11 => conflict(bus_calls::shared_bus::vram_dma_conflict_source(
             s,
             fields::two(record[2], record[3]),
         )),
-        14 => tally(engine::query::tally(s)),
-        15 => status(engine::query::vram_dma_status(s)),
-        16 => claim(engine::query::vram_dma_claim(s)),
-        17 => flag(engine::query::vram_dma_park_waits_for_fetch(s)),
-        18 => flag(engine::query::vram_dma_request_standing(s)),
-        19 => flag(engine::query::vram_dma_holds_cpu(s)),
-        20 => flag(engine::query::vram_dma_seizes_bus(s)),
-        21 => flag(engine::query::speed_switch_in_progress(s)),
-        22 => flag(engine::query::speed_switch_divider_active(s)),
-        23 => flag(engine::query::double_speed(s)),
-        24 => byte(engine::query::cpu_steps_per_dot(s)),
-        25 => byte(engine::query::wram_bank(s)),
-        26 => byte(engine::query::svbk_register(s)),
+        14 => tally(queries::tally(s)),
+        15 => status(queries::vram_dma_status(s)),
+        16 => claim(queries::vram_dma_claim(s)),
+        17 => flag(queries::vram_dma_park_waits_for_fetch(s)),
+        18 => flag(queries::vram_dma_request_standing(s)),
+        19 => flag(queries::vram_dma_holds_cpu(s)),
+        20 => flag(queries::vram_dma_seizes_bus(s)),
+        21 => flag(queries::speed_switch_in_progress(s)),
+        22 => flag(queries::speed_switch_divider_active(s)),
+        23 => flag(queries::double_speed(s)),
+        24 => byte(queries::cpu_steps_per_dot(s)),
+        25 => byte(queries::wram_bank(s)),
+        26 => byte(queries::svbk_register(s)),
         _ => refused(255),
     }
 }
@@ -316,7 +316,7 @@ fn write(s: Cgb, wram: &mut [u8], record: &[u8; 576]) -> Outcome {
         value: record[4],
         lcd_on: record[5] != 0,
     };
-    let r = engine::access::write(s, wram, fields::two(record[2], record[3]), input);
+    let r = bus_calls::access::write(s, wram, fields::two(record[2], record[3]), input);
     let answer = r.answer;
     let state = r.state;
     Outcome {
@@ -332,7 +332,7 @@ fn access(s: Cgb, wram: &mut [u8], record: &[u8; 576]) -> Outcome {
         return write(s, wram, record);
     }
     Outcome {
-        answer: byte(engine::access::read(s, wram, fields::two(record[2], record[3]))),
+        answer: byte(bus_calls::access::read(s, wram, fields::two(record[2], record[3]))),
         state: s,
     }
 }

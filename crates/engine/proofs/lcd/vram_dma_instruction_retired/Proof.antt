@@ -1,6 +1,6 @@
 -- `vram_dma_instruction_retired` meets its contract. Assumes nothing.
 use Rattle.engine.specs.Lcd.{retiredCallOf, doneSaid}
-use Rattle.engine.specs.Query.{stateRefusal}
+use Rattle.answers.specs.Answers.{stateRefusal}
 use Rattle.engine.proofs.lcd.vram_dma_instruction_retired.Statement.{statement}
 use Rattle.engine.proofs.lcd.vram_dma_instruction_retired.Tie as tie
 

@@ -1,6 +1,6 @@
 -- `vram_dma_lcd_disabled` meets its contract. Assumes nothing.
 use Rattle.engine.specs.Lcd.{lcdCallOf, doneSaid}
-use Rattle.engine.specs.Query.{stateRefusal}
+use Rattle.answers.specs.Answers.{stateRefusal}
 use Rattle.engine.proofs.lcd.vram_dma_lcd_disabled.Statement.{statement}
 use Rattle.engine.proofs.lcd.vram_dma_lcd_disabled.Tie as tie
 

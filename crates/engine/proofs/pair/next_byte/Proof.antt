@@ -2,7 +2,7 @@
 use Rattle.transfer.specs.Pair.{nextByteOf}
 use Rattle.engine.proofs.Says.{pair-said}
 use Rattle.engine.specs.Pair.{nextPairOf, nextPairSaid}
-use Rattle.engine.specs.Query.{stateRefusal}
+use Rattle.answers.specs.Answers.{stateRefusal}
 use Rattle.engine.proofs.pair.next_byte.Statement.{statement}
 use Rattle.engine.proofs.pair.next_byte.Tie as tie
 

@@ -2,7 +2,7 @@
 use Rattle.transfer.specs.Pair.{drainOf}
 use Rattle.engine.proofs.Says.{pair-said}
 use Rattle.engine.specs.Pair.{escapeDrainOf, escapeDrainSaid}
-use Rattle.engine.specs.Query.{stateRefusal}
+use Rattle.answers.specs.Answers.{stateRefusal}
 use Rattle.engine.proofs.pair.vram_dma_drain_escape.Statement.{statement}
 use Rattle.engine.proofs.pair.vram_dma_drain_escape.Tie as tie
 

@@ -1,6 +1,6 @@
 -- `drain_speed_switch_blackout` meets its contract. Assumes nothing.
 use Rattle.engine.specs.Speed.{blackoutCallOf, blackoutSaid}
-use Rattle.engine.specs.Query.{stateRefusal}
+use Rattle.answers.specs.Answers.{stateRefusal}
 use Rattle.engine.proofs.speed.drain_speed_switch_blackout.Statement.{statement}
 use Rattle.engine.proofs.speed.drain_speed_switch_blackout.Tie as tie
 

@@ -1,6 +1,6 @@
 -- `speed_switch_wake_ready` meets its contract. Assumes nothing.
 use Rattle.engine.specs.Speed.{wakeCallOf, wakeSaid}
-use Rattle.engine.specs.Query.{stateRefusal}
+use Rattle.answers.specs.Answers.{stateRefusal}
 use Rattle.engine.proofs.speed.speed_switch_wake_ready.Statement.{statement}
 use Rattle.engine.proofs.speed.speed_switch_wake_ready.Tie as tie
 

@@ -1,0 +1,68 @@
+// The bus call (vram_dma.rs, `vram_dma_commit_bytes`): the bytes that the engine moves in an M-cycle.
+ghost use Rattle.bus_calls.specs.BusCall.{wrongLengths, refusedBus, Bused};
+ghost use mathlib.Core.Path.{_≡_};
+use answers::BusAnswer;
+use answers::Bussed;
+use bus::commit::Banks;
+use bus::commit::BusInput;
+use console::Cgb;
+use console::refusal;
+use console::same;
+use transfer::pair::BytePair;
+
+fn refused(state: Cgb, number: u8) -> Bussed
+    ensures { λ r. ⌜ r ≡ refusedBus number state ⌝ }
+{
+    Bussed {
+        answer: BusAnswer::Refused(number),
+        pairs: [BytePair { source: 0, dest: 0 }; 2],
+        bytes: [0u8; 2],
+        state: same::cgb(state),
+    }
+}
+
+// Cartridge, WRAM, VRAM and OAM, each of its length.
+fn wrong_lengths(cartridge: usize, wram: usize, vram: usize, oam: usize) -> bool
+    ensures { λ r. ⌜ r ≡ wrongLengths cartridge wram vram oam ⌝ }
+{
+    (cartridge != memory::CARTRIDGE)
+        | (wram != memory::WRAM)
+        | (vram != memory::VRAM)
+        | (oam != memory::OAM)
+}
+
+pub fn vram_dma_commit_bytes(
+    state: Cgb,
+    input: BusInput,
+    cartridge: &[u8],
+    wram: &[u8],
+    vram: &mut [u8],
+    oam: &mut [u8],
+) -> Bussed
+    ensures { λ r. ⌜ Bused state input (now (cartridge .entry)) (now (wram .entry)) (now (vram .entry)) (now (oam .entry))
+        r (now (vram .exit)) (now (oam .exit)) ⌝ }
+{
+    if state.unreached() {
+        return refused(state, refusal::STATE);
+    }
+    if wrong_lengths(cartridge.len(), wram.len(), vram.len(), oam.len()) {
+        return refused(state, refusal::LENGTH);
+    }
+    let banks = Banks {
+        svbk: state.svbk,
+        vram: state.vram.selected,
+    };
+    let run = bus::commit::commit_bytes(state.vram_dma, banks, input, cartridge, wram, vram, oam);
+    let pairs = run.pairs;
+    let bytes = run.bytes;
+    let after = same::cgb_with(state, run.dma);
+    Bussed {
+        answer: BusAnswer::Moved {
+            count: run.count,
+            setup_cell: run.setup_cell,
+        },
+        pairs: pairs,
+        bytes: bytes,
+        state: after,
+    }
+}

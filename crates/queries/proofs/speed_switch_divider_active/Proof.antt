@@ -1,0 +1,16 @@
+-- `speed_switch_divider_active` meets its contract. Assumes nothing.
+use Rattle.queries.specs.Query.{flagOf, querySaid}
+use Rattle.answers.specs.Answers.{stateRefusal}
+use Rattle.queries.proofs.speed_switch_divider_active.Statement.{statement}
+use Rattle.queries.proofs.speed_switch_divider_active.Tie as tie
+
+returns : tie.Need-returns
+unfolding flagOf querySaid stateRefusal
+returns c = record { is = rw (← c .before .unreached .ensures, c .if1 .taken); says = rw (← c .before .unreached .ensures, c .if1 .taken) }
+
+returns-2 : tie.Need-returns-2
+unfolding flagOf querySaid stateRefusal
+returns-2 c = record { is = rw (← c .before .before .unreached .ensures, c .before .if1 .left, c .blackout-divider-active .ensures); says = rw (← c .before .before .unreached .ensures, c .before .if1 .left, c .blackout-divider-active .ensures) }
+
+pub speed-switch-divider-active-spec : {M : Type 1} → statement M
+speed-switch-divider-active-spec = tie.close (tie.spec (λ _ _. tt) returns (λ _ _. tt) returns-2)
