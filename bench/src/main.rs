@@ -69,7 +69,7 @@ fn falls(name: &str, goal: f64, start: [u8; 248], steps: &[u8], each: usize, tim
 }
 
 /// The exported entry: the state, the call and the answer as bytes, read and written at every call, on both sides.
-fn entry(name: &str, goal: f64, start: [u8; 248], steps: &[u8]) {
+fn entry(name: &str, goal: f64, start: [u8; 248], steps: &[u8], times: usize) {
     let records: Vec<[u8; 16]> = steps
         .iter()
         .enumerate()
@@ -83,18 +83,22 @@ fn entry(name: &str, goal: f64, start: [u8; 248], steps: &[u8]) {
     let (mut ours, mut theirs) = (start, start);
     row(
         name,
-        records.len(),
+        records.len() * times,
         goal,
         || {
-            ours = start;
-            for call in &records {
-                assert_eq!(port::perform(&mut ours, call, &mut memory), 0);
+            for _ in 0..times {
+                ours = start;
+                for call in &records {
+                    assert_eq!(port::perform(&mut ours, call, &mut memory), 0);
+                }
             }
         },
         || {
-            theirs = start;
-            for call in &records {
-                assert_eq!(original.perform(&mut theirs, call), 0);
+            for _ in 0..times {
+                theirs = start;
+                for call in &records {
+                    assert_eq!(original.perform(&mut theirs, call), 0);
+                }
             }
         },
     );
@@ -160,7 +164,7 @@ fn main() {
     falls("falls of a frame under an HBlank transfer", 0.6, armed, &upload, upload.len(), 10);
     falls("random falls", 1.0, armed, &random, 8192, 10);
     falls("bus calls of a General transfer, a fall before each", 1.0, general, &input::general(1024), 1024, 500);
-    entry("the exported entry, calls of a frame under an HBlank transfer", 1.0, armed, &upload);
+    entry("the exported entry, calls of a frame under an HBlank transfer", 1.0, armed, &upload, 5);
     match words.first() {
         Some(program) => replay(program, &upload, 10),
         None => eprintln!("bench: no replay program was named: the replay was not measured"),

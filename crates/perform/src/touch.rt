@@ -9,6 +9,7 @@ use crate::told::Told;
 use bus::arbitration::ArbitrationInput;
 use bus::commit::BusInput;
 use console::Cgb;
+use console::same;
 use fall_edge::FallInput;
 use registers::WriteInput;
 use speed_switch::switch::SwitchInput;
@@ -25,11 +26,12 @@ pub struct Performed {
 fn quiet(told: Told, state: Cgb) -> Performed
     ensures { λ r. ⌜ r ≡ quietOf told state ⌝ }
 {
+    let same = same::cgb(state);
     Performed {
         told: told,
         pairs: [BytePair { source: 0, dest: 0 }; 2],
         bytes: [0u8; 2],
-        state: state,
+        state: same,
     }
 }
 

@@ -95,11 +95,9 @@ fn feed(r: Replay, part: &[u8], out: &mut [u8], wram: &mut [u8]) -> Replay {
 }
 
 // One turn: a buffer of input, or the end of it.
-fn turn(r: Replay, wram: &mut [u8]) -> Turned {
-    let mut buf = io::large_buffer();
-    let n = io::read_full(STDIN_FILENO, &mut buf);
-    let mut out = io::large_buffer();
-    let replay = feed(r, &buf[..n], &mut out, wram);
+fn turn(r: Replay, buf: &mut [u8], out: &mut [u8], wram: &mut [u8]) -> Turned {
+    let n = io::read_full(STDIN_FILENO, buf);
+    let replay = feed(r, &buf[..n], out, wram);
     Turned {
         replay: replay,
         more: n == 65536,
@@ -107,6 +105,8 @@ fn turn(r: Replay, wram: &mut [u8]) -> Turned {
 }
 
 fn main() {
+    let mut buf = io::large_buffer();
+    let mut out = io::large_buffer();
     let mut wram = [0u8; 32768];
     let mut replay = Replay {
         state: engine::power_on(false),
@@ -114,7 +114,7 @@ fn main() {
     };
     let mut turns = u64::MAX;
     while turns > 0 {
-        let t = turn(replay, &mut wram);
+        let t = turn(replay, &mut buf, &mut out, &mut wram);
         replay = t.replay;
         if !t.more {
             break;

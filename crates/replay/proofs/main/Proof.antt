@@ -1,16 +1,21 @@
 -- `main` stays inside its slices and ends. Assumes nothing.
 use borrow.Author.Needs.{needs}
-use Prim.Native.Nat.{_-_, _≤_}
 use mathlib.Core.Path.{_≡_}
 use lib.ListN.{length}
 use Rattle.replay.proofs.main.Statement.{statement}
 use Rattle.replay.proofs.main.Tie as tie
 
 abbrev Inv-loop : tie.InvT-loop
-Inv-loop wram₀ replay₀ turns₀ wram replay turns = (length wram ≡ 32768)
+Inv-loop buf₀ out₀ wram₀ replay₀ turns₀ buf out wram replay turns = (length buf ≡ 65536) × (length out ≡ 65536) × (length wram ≡ 32768)
 
 abbrev μ-loop : tie.MeasureT-loop
-μ-loop wram₀ replay₀ turns₀ wram replay turns = turns
+μ-loop buf₀ out₀ wram₀ replay₀ turns₀ buf out wram replay turns = turns
+
+large-buffer-requires : tie.Need-large-buffer-requires Inv-loop μ-loop
+large-buffer-requires c κs = search needs
+
+large-buffer-requires-2 : tie.Need-large-buffer-requires-2 Inv-loop μ-loop
+large-buffer-requires-2 c κs = search needs
 
 power-on-requires : tie.Need-power-on-requires Inv-loop μ-loop
 power-on-requires c κs = search needs
@@ -20,6 +25,12 @@ loop-holds c = search needs
 
 slice-aggregate-turn : tie.Need-slice-aggregate-turn Inv-loop μ-loop
 slice-aggregate-turn c = search needs
+
+slice-aggregate-turn-2 : tie.Need-slice-aggregate-turn-2 Inv-loop μ-loop
+slice-aggregate-turn-2 c = search needs
+
+slice-aggregate-turn-3 : tie.Need-slice-aggregate-turn-3 Inv-loop μ-loop
+slice-aggregate-turn-3 c = search needs
 
 turn-requires : tie.Need-turn-requires Inv-loop μ-loop
 turn-requires c κs = search needs
@@ -45,9 +56,13 @@ main-spec =
     (tie.spec
     Inv-loop
     μ-loop
+    large-buffer-requires
+    large-buffer-requires-2
     power-on-requires
     loop-holds
     slice-aggregate-turn
+    slice-aggregate-turn-2
+    slice-aggregate-turn-3
     turn-requires
     sub-turns
     loop-less
