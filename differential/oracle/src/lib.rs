@@ -5,6 +5,8 @@
 //!     MISSINGNO_SRC=.. cargo run --release -- vectors SEED COUNT [KINDS] > FILE
 //!     MISSINGNO_SRC=.. cargo run --release -- select SEED COUNT [KINDS] > FILE
 //!     MISSINGNO_SRC=.. cargo run --release -- cases > FILE
+//!     MISSINGNO_SRC=.. cargo run --release -- script SEED COUNT > SCRIPT
+//!     MISSINGNO_SRC=.. cargo run --release -- replay < SCRIPT
 //!     MISSINGNO_SRC=.. PORT_LIB=.. cargo run --release -- compare SEED COUNT [rising]
 //!
 //! Built with BRANCHES=1 the run tells at its end which conditions of the original never came out one way.
@@ -74,7 +76,7 @@ impl missingno_gb::Model for Cgb {
 /// The commands.
 pub fn command() {
     let words: Vec<String> = std::env::args().skip(1).collect();
-    let usage = "usage: oracle vectors|select SEED COUNT [KIND,KIND,..] | cases | replay | compare SEED COUNT [rising]";
+    let usage = "usage: oracle vectors|select SEED COUNT [KIND,KIND,..] | cases | script SEED COUNT | replay | compare SEED COUNT [rising]";
     match words.first().map(String::as_str) {
         Some("vectors") => vectors::write(&words[1..], usage),
         Some("select") => vectors::select(&words[1..], usage),
@@ -82,6 +84,14 @@ pub fn command() {
         Some("replay") => {
             let (mut input, mut output) = (std::io::stdin().lock(), std::io::stdout().lock());
             replay::run(&mut input, &mut output).expect("the replay could not be read or written");
+        }
+        Some("script") => {
+            let number = |k: usize| words.get(k).and_then(|w| w.parse::<u64>().ok());
+            let (Some(seed), Some(count)) = (number(1), number(2)) else {
+                eprintln!("{usage}");
+                std::process::exit(2);
+            };
+            replay::script(seed, count, std::io::stdout().lock()).expect("the script could not be written");
         }
         #[cfg(port)]
         Some("compare") => compare::run(&words[1..], usage),

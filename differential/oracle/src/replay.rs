@@ -1,12 +1,16 @@
 //! The replay of document 01, section 6, over the original: records of 16 bytes from standard input, a line for each to
 //! standard output. It keeps the original's own state and decodes nothing between records, as the port's program does.
-//! A fall that overflows (14) ends it.
-use std::io::{Read, Write};
+use std::io::{BufWriter, Read, Write};
+use std::panic::{AssertUnwindSafe, catch_unwind};
 
+use missingno_gb::ppu::rendering::Mode;
 use missingno_gb::{Chassis, ConsoleShadow};
 
 use crate::Cgb;
 use crate::calls::{self, Call, kind};
+use crate::layout;
+use crate::random::Random;
+use crate::vectors;
 
 struct Replay {
     cgb: Cgb,
@@ -36,8 +40,26 @@ impl Replay {
         self.chassis.cpu.stopped = call.bit(2);
         self.chassis.dma.owns_bus = call.bit(3);
         self.chassis.clock.edge = call.edge();
-        self.cgb.vram_dma_fall_edge(&mut self.chassis, calls::mode(call.record[4]));
+        let mode = calls::mode(call.record[4]);
+        // Only from 255 can the count of blocks granted ahead overflow (14): then the state of before is kept.
+        if self.cgb.vram_dma.arb.granted_ahead == 255 {
+            return (self.guarded(mode), false);
+        }
+        self.cgb.vram_dma_fall_edge(&mut self.chassis, mode);
         (0, false)
+    }
+
+    /// A fall that may overflow: 14 and the state of before, or 0.
+    #[cold]
+    fn guarded(&mut self, mode: Mode) -> u8 {
+        let before = layout::encode(&self.cgb, &self.chassis.vram_bus.vram);
+        let (cgb, chassis) = (&mut self.cgb, &mut self.chassis);
+        let fell = catch_unwind(AssertUnwindSafe(|| cgb.vram_dma_fall_edge(chassis, mode)));
+        if fell.is_ok() {
+            return 0;
+        }
+        layout::decode(&before, &mut self.cgb, &mut self.chassis.vram_bus.vram);
+        14
     }
 
     fn switch(&mut self, call: &Call) -> Outcome {
@@ -94,6 +116,7 @@ fn put_number(out: &mut Vec<u8>, mut n: u64) {
 
 pub fn run(input: &mut impl Read, output: &mut impl Write) -> std::io::Result<()> {
     const HEX: &[u8; 16] = b"0123456789ABCDEF";
+    std::panic::set_hook(Box::new(|_| {}));
     let mut replay = Replay { cgb: Cgb::default(), chassis: Chassis::new() };
     let mut buffer = vec![0u8; 65536];
     let mut out = Vec::with_capacity(65536);
@@ -127,4 +150,20 @@ pub fn run(input: &mut impl Read, output: &mut impl Write) -> std::io::Result<()
             return output.write_all(&out);
         }
     }
+}
+
+/// A script of COUNT records, most of them as a program would give them; one in 64 is of no kind. The last one is short.
+pub fn script(seed: u64, count: u64, output: impl Write) -> std::io::Result<()> {
+    let kinds: Vec<u8> = (kind::WRITE..=kind::BLACKOUT).collect();
+    let mut r = Random::new(seed);
+    let mut out = BufWriter::new(output);
+    let mut phase = 5;
+    for step in 0..count {
+        let mut call = vectors::likely(&mut r, &kinds, step, &mut phase);
+        if r.one_in(64) {
+            call.record[0] = r.pick(&[0, 8, 9, 255]);
+        }
+        out.write_all(if step + 1 == count { &call.record[..7] } else { &call.record })?;
+    }
+    out.flush()
 }
