@@ -63,13 +63,14 @@ extern "C" {
 /* Refusals: 1 mode above 3; 2 a slice of another length; 3 dot phase above 4; 4 address not in the call's map; 5 switch
  * under hold; 6 a record of no call; 7 bytes that no state has, or a state that no run leaves; 11 blackout running;
  * 12 KEY1 not armed; 13 downward with a ready block; 14 a commit would raise granted from 255. A refused call changes
- * neither state nor memory. */
+ * neither state nor memory, and its answer is the number and zeros. */
 
 /* The state at power-on; compat if not 0. */
 void cgb_power_on(uint8_t state[CGB_STATE_BYTES], uint8_t compat);
 
-/* Performs a call and gives its refusal, or 0. With 6, and with 7 where the bytes are no state's, nothing is written at
- * all; else the answer is. No pointer may be null, and no two of the seven may overlap. */
+/* Performs a call and gives its refusal, or 0: 7 where the bytes are no state's, then 6, then what the call gives. The
+ * answer is written whole by every call, and its byte 0 is the result. No pointer may be null, and no two of the seven
+ * may overlap. */
 uint8_t cgb_perform(uint8_t state[CGB_STATE_BYTES], const uint8_t call[CGB_CALL_BYTES],
                     uint8_t answer[CGB_ANSWER_BYTES], const uint8_t *cartridge, size_t cartridge_bytes,
                     uint8_t *wram, size_t wram_bytes, uint8_t *vram, size_t vram_bytes, uint8_t *oam,

@@ -4,11 +4,12 @@ use mathlib.Core.Path.{_≡_, refl, sym, ap, _∙_}
 use mathlib.Core.Bool.{Bool, true, false, not, cond}
 use mathlib.Core.List.{List}
 use Rattle.codec.specs.Codec.{encodeOf, decodeOf}
+use Rattle.codec.specs.Number.{byteAt}
 use Rattle.codec.specs.declared.Decoded.{Decoded}
 use Rattle.perform.specs.Perform.{performOf, wramAfter, vramAfter, oamAfter, Performs}
 use Rattle.perform.specs.declared.call.Call.{Call}
 use Rattle.perform.specs.declared.touch.Performed.{Performed}
-use Rattle.c_api.specs.Answer.{answerBytes}
+use Rattle.c_api.specs.Answer.{answerBytes, refusedBytes}
 use Rattle.c_api.specs.Entry.{Left, calledOf, enteredOf, Entered}
 use Rattle.c_api.specs.Record.{codedOf}
 use Rattle.c_api.specs.declared.record.Coded.{Coded}
@@ -22,26 +23,28 @@ readable : (b : Bool) → not b ≡ false → b ≡ true
 readable true h = refl
 readable false h = sym h
 
-module _ (state call answer cartridge wram vram oam : List ℕ) (before : Decoded) (is : before ≡ decodeOf state) where
-  pub entered-unreadable : not (before .valid) ≡ true → Entered state call answer cartridge wram vram oam 7 state answer wram vram oam
+module _ (state call cartridge wram vram oam : List ℕ) (before : Decoded) (is : before ≡ decodeOf state) where
+  pub entered-unreadable : (answer : List ℕ) → not (before .valid) ≡ true → answer ≡ refusedBytes 7 → Entered state call cartridge wram vram oam 7 state answer wram vram oam
   unfolding enteredOf
-  entered-unreadable h = record { all = rw (← is, unreadable (before .valid) h) }
+  entered-unreadable answer h a =
+      record { all = rw (← is, unreadable (before .valid) h, a); number = ap (λ (b : List ℕ). byteAt b 0) a }
 
-  called : (left : Left) → not (before .valid) ≡ false → left ≡ calledOf (before .state) (codedOf call) state answer cartridge wram vram oam → left ≡ enteredOf state call answer cartridge wram vram oam
+  called : (left : Left) → not (before .valid) ≡ false → left ≡ calledOf (before .state) (codedOf call) state cartridge wram vram oam → left ≡ enteredOf state call cartridge wram vram oam
   unfolding enteredOf
   called left h e = rw (← is, readable (before .valid) h) e
 
   pub entered-unknown :
-      (k : Coded) → not (before .valid) ≡ false → k ≡ codedOf call → k ≡ coded.Unknown →
-      Entered state call answer cartridge wram vram oam 6 state answer wram vram oam
+      (k : Coded) (answer : List ℕ) → not (before .valid) ≡ false → k ≡ codedOf call → k ≡ coded.Unknown → answer ≡ refusedBytes 6 →
+      Entered state call cartridge wram vram oam 6 state answer wram vram oam
   unfolding calledOf
-  entered-unknown k h e u = record { all = called _ h (rw (← e, u)) }
+  entered-unknown k answer h e u a =
+      record { all = called _ h (rw (← e, u, a)); number = ap (λ (b : List ℕ). byteAt b 0) a }
 
   pub entered-called :
       (k : Coded) (c : Call) (p : Performed) (lastState lastAnswer lastWram lastVram lastOam : List ℕ) → not (before .valid) ≡ false →
       k ≡ codedOf call → k ≡ coded.Call c → Performs (before .state) c cartridge wram vram oam p lastWram lastVram lastOam →
       lastAnswer ≡ answerBytes p → lastState ≡ encodeOf (p .state) →
-      Entered state call answer cartridge wram vram oam (p .told .refusal) lastState lastAnswer lastWram lastVram lastOam
+      Entered state call cartridge wram vram oam (p .told .refusal) lastState lastAnswer lastWram lastVram lastOam
   unfolding calledOf
   entered-called k c p lastState lastAnswer lastWram lastVram lastOam h e u q a s =
       let left : Performed → Left =
@@ -53,4 +56,7 @@ module _ (state call answer cartridge wram vram oam : List ℕ) (before : Decode
         vram = vramAfter (before .state) c cartridge wram vram oam;
         oam = oamAfter (before .state) c cartridge wram vram oam;
       }) in
-      record { all = called _ h (rw (← e, u, a, s, q .work, q .stored, q .deposit) (ap left (q .result))) }
+      record {
+        all = called _ h (rw (← e, u, a, s, q .work, q .stored, q .deposit) (ap left (q .result)));
+        number = ap (λ (b : List ℕ). byteAt b 0) a;
+      }

@@ -2,7 +2,7 @@
 -- and destination, 14–17 the second's, 18 and 19 their bytes, 20–23 zero.
 use Prim.Native.Nat.{ℕ, _/_, _%_}
 use mathlib.Core.List.{List, [], _∷_, _++_}
-use lib.ListN.{getD}
+use lib.ListN.{getD, replicate}
 use Rattle.codec.specs.Number.{digits}
 use Rattle.bus.specs.Deposit.{noPair}
 use Rattle.transfer.specs.declared.pair.BytePair.{BytePair}
@@ -21,3 +21,7 @@ answerBytes p =
     ++ pairBytes (getD (p .pairs) 0 noPair)
     ++ pairBytes (getD (p .pairs) 1 noPair)
     ++ (getD (p .bytes) 0 0 ∷ getD (p .bytes) 1 0 ∷ 0 ∷ 0 ∷ 0 ∷ 0 ∷ [])
+
+-- a refused call's: the number and zeros
+abbrev pub refusedBytes : ℕ → List ℕ
+refusedBytes n = n ∷ replicate 23 0

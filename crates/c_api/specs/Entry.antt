@@ -1,14 +1,15 @@
--- The exported entry: "State bytes that no state has get 7, a bad call record 6, nothing is written"; else the call is performed.
+-- The exported entry: state bytes that no state has get 7, then a record of no call 6; else the call is performed.
 use Prim.Native.Nat.{ℕ}
 use mathlib.Core.Path.{_≡_}
 use mathlib.Core.Bool.{Bool, not, cond}
 use mathlib.Core.List.{List}
 use lib.Dec.{eqb}
 use Rattle.codec.specs.Codec.{encodeOf, decodeOf}
+use Rattle.codec.specs.Number.{byteAt}
 use Rattle.console.specs.PowerOn.{powerOnOf}
 use Rattle.console.specs.declared.Cgb.{Cgb}
 use Rattle.perform.specs.Perform.{performOf, wramAfter, vramAfter, oamAfter}
-use Rattle.c_api.specs.Answer.{answerBytes}
+use Rattle.c_api.specs.Answer.{answerBytes, refusedBytes}
 use Rattle.c_api.specs.Record.{codedOf}
 use Rattle.c_api.specs.declared.record.Coded.{Coded}
 use Rattle.c_api.specs.declared.record.Coded.the-variants.{Call, Unknown}
@@ -25,9 +26,14 @@ pub record Left : Type 0 where
   pub vram : List ℕ
   pub oam : List ℕ
 
--- a record's call at a state, or 6 and nothing written
-unfoldable pub calledOf : Cgb → Coded → List ℕ → List ℕ → List ℕ → List ℕ → List ℕ → List ℕ → Left
-calledOf s (Call c) state answer cartridge wram vram oam =
+-- refused: the answer is the number and zeros, all else as given
+abbrev pub refusedLeft : ℕ → List ℕ → List ℕ → List ℕ → List ℕ → Left
+refusedLeft n state wram vram oam =
+    record { result = n; state = state; answer = refusedBytes n; wram = wram; vram = vram; oam = oam }
+
+-- a record's call at a state, or 6
+unfoldable pub calledOf : Cgb → Coded → List ℕ → List ℕ → List ℕ → List ℕ → List ℕ → Left
+calledOf s (Call c) state cartridge wram vram oam =
     let p = performOf s c cartridge wram vram oam in
     record {
       result = p .told .refusal;
@@ -37,17 +43,18 @@ calledOf s (Call c) state answer cartridge wram vram oam =
       vram = vramAfter s c cartridge wram vram oam;
       oam = oamAfter s c cartridge wram vram oam;
     }
-calledOf s Unknown state answer cartridge wram vram oam =
-    record { result = 6; state = state; answer = answer; wram = wram; vram = vram; oam = oam }
+calledOf s Unknown state cartridge wram vram oam = refusedLeft 6 state wram vram oam
 
 -- 7 first
-unfoldable pub enteredOf : List ℕ → List ℕ → List ℕ → List ℕ → List ℕ → List ℕ → List ℕ → Left
-enteredOf state call answer cartridge wram vram oam =
-    cond (decodeOf state .valid) (calledOf (decodeOf state .state) (codedOf call) state answer cartridge wram vram oam)
-    (record { result = 7; state = state; answer = answer; wram = wram; vram = vram; oam = oam })
+unfoldable pub enteredOf : List ℕ → List ℕ → List ℕ → List ℕ → List ℕ → List ℕ → Left
+enteredOf state call cartridge wram vram oam =
+    cond (decodeOf state .valid) (calledOf (decodeOf state .state) (codedOf call) state cartridge wram vram oam)
+    (refusedLeft 7 state wram vram oam)
 
--- the whole outcome
-pub record Entered (state call answer cartridge wram vram oam : List ℕ) (r : ℕ) (lastState lastAnswer lastWram lastVram lastOam : List ℕ) : Type 0 where
+-- the whole outcome, whatever stood in the answer
+pub record Entered (state call cartridge wram vram oam : List ℕ) (r : ℕ) (lastState lastAnswer lastWram lastVram lastOam : List ℕ) : Type 0 where
   pub all :
       record { result = r; state = lastState; answer = lastAnswer; wram = lastWram; vram = lastVram; oam = lastOam } ≡
-      enteredOf state call answer cartridge wram vram oam
+      enteredOf state call cartridge wram vram oam
+  -- byte 0 of the answer is the result
+  pub number : byteAt lastAnswer 0 ≡ r

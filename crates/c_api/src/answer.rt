@@ -1,7 +1,7 @@
 // An answer's record: the refusal, the values, the pairs and the bytes of a bus call, lowest byte first.
 ghost use mathlib.Core.Path.{_≡_};
 ghost use Prim.Native.Nat.{_/_, _%_};
-ghost use Rattle.c_api.specs.Answer.{answerBytes};
+ghost use Rattle.c_api.specs.Answer.{answerBytes, refusedBytes};
 use perform::touch::Performed;
 
 fn low(n: u16) -> u8
@@ -14,6 +14,15 @@ fn high(n: u16) -> u8
     ensures { λ r. ⌜ r ≡ n / 256 % 256 ⌝ }
 {
     (n / 256 % 256) as u8
+}
+
+// A refused call's record: the number and zeros.
+pub fn refused(number: u8) -> [u8; 24]
+    ensures { λ r. ⌜ r ≡ refusedBytes number ⌝ }
+{
+    let mut out = [0; 24];
+    out[0] = number;
+    out
 }
 
 pub fn encode(p: Performed) -> [u8; 24]

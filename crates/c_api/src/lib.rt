@@ -20,8 +20,8 @@ pub extern "C" fn cgb_power_on(state: &mut [u8; 248], compat: u8)
     *state = codec::encode(on);
 }
 
-// One call. The result is the refusal, or 0. State bytes that no state has get 7 and a record of no call
-// gets 6: then nothing is written.
+// One call. The result is the refusal, or 0, and stands in front of the answer. State bytes that no state has
+// get 7, then a record of no call gets 6. A refused call's answer is the number and zeros; the rest is as given.
 #[no_mangle]
 pub extern "C" fn cgb_perform(
     state: &mut [u8; 248],
@@ -32,17 +32,19 @@ pub extern "C" fn cgb_perform(
     vram: &mut [u8],
     oam: &mut [u8],
 ) -> u8
-    ensures { λ r. ⌜ Entered (now (state .entry)) (now (call .entry)) (now (answer .entry)) (now (cartridge .entry))
+    ensures { λ r. ⌜ Entered (now (state .entry)) (now (call .entry)) (now (cartridge .entry))
         (now (wram .entry)) (now (vram .entry)) (now (oam .entry))
         r (now (state .exit)) (now (answer .exit)) (now (wram .exit)) (now (vram .exit)) (now (oam .exit)) ⌝ }
 {
     let before = codec::decode(*state);
     let unreadable = !before.valid;
     if unreadable {
+        *answer = answer::refused(refusal::STATE);
         return refusal::STATE;
     }
     let coded = record::decode(*call);
     let Coded::Call(known) = coded else {
+        *answer = answer::refused(UNKNOWN_RECORD);
         return UNKNOWN_RECORD;
     };
     let given = before.state;
