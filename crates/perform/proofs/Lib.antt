@@ -1,1 +1,2 @@
+pub mod Declined
 pub mod Outcomes

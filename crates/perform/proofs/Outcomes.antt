@@ -5,6 +5,7 @@ use mathlib.Core.List.{List}
 use Rattle.console.specs.declared.Cgb.{Cgb}
 use Rattle.bus.specs.declared.commit.BusInput.{BusInput}
 use Rattle.registers.specs.declared.WriteInput.{WriteInput}
+use Rattle.perform.proofs.Declined.{declined-call}
 use Rattle.perform.specs.Perform.{plainOf, readOf, Wrote, Bused, performOf, wramAfter, vramAfter, oamAfter, Performs}
 use Rattle.perform.specs.declared.call.Call.{Call}
 use Rattle.perform.specs.declared.call.Call.the-variants.{Write, Read, Bus, Plain}
@@ -12,6 +13,19 @@ use Rattle.perform.specs.declared.call.PlainCall.{PlainCall}
 use Rattle.perform.specs.declared.touch.Performed.{Performed}
 
 module _ (s : Cgb) (call : Call) (cartridge wram vram oam : List ℕ) (r : Performed) where
+  -- what is said of a declined call follows from the four equations
+  whole :
+      (c : Call) (w v o : List ℕ) → r ≡ performOf s c cartridge wram vram oam → w ≡ wramAfter s c wram →
+      v ≡ vramAfter s c cartridge wram vram oam → o ≡ oamAfter s c cartridge wram vram oam → Performs s c cartridge wram vram oam r w v o
+  whole c w v o result work stored deposit =
+      record {
+        result = result;
+        work = work;
+        stored = stored;
+        deposit = deposit;
+        declined = rw (result, work, stored, deposit) (declined-call s wram vram oam c cartridge);
+      }
+
   as-known :
       (c : Call) (w v o : List ℕ) → call ≡ c → Performs s c cartridge wram vram oam r w v o → Performs s call cartridge wram vram oam r w v o
   as-known c w v o is p = subst (λ (x : Call). Performs s x cartridge wram vram oam r w v o) (sym is) p
@@ -20,18 +34,18 @@ module _ (s : Cgb) (call : Call) (cartridge wram vram oam : List ℕ) (r : Perfo
       (a : ℕ) (w : WriteInput) (last : List ℕ) → call ≡ Write a w → Wrote s w a wram r last →
       Performs s call cartridge wram vram oam r last vram oam
   unfolding performOf wramAfter vramAfter oamAfter
-  performs-write a w last is p = as-known (Write a w) last vram oam is (record { result = p .result; work = p .memory; stored = refl; deposit = refl })
+  performs-write a w last is p = as-known (Write a w) last vram oam is (whole (Write a w) last vram oam (p .result) (p .memory) refl refl)
 
   pub performs-read : (a : ℕ) → call ≡ Read a → r ≡ readOf s wram a → Performs s call cartridge wram vram oam r wram vram oam
   unfolding performOf wramAfter vramAfter oamAfter
-  performs-read a is p = as-known (Read a) wram vram oam is (record { result = p; work = refl; stored = refl; deposit = refl })
+  performs-read a is p = as-known (Read a) wram vram oam is (whole (Read a) wram vram oam p refl refl refl)
 
   pub performs-bus :
       (i : BusInput) (v o : List ℕ) → call ≡ Bus i → Bused s i cartridge wram vram oam r v o →
       Performs s call cartridge wram vram oam r wram v o
   unfolding performOf wramAfter vramAfter oamAfter
-  performs-bus i v o is p = as-known (Bus i) wram v o is (record { result = p .result; work = refl; stored = p .stored; deposit = p .deposit })
+  performs-bus i v o is p = as-known (Bus i) wram v o is (whole (Bus i) wram v o (p .result) refl (p .stored) (p .deposit))
 
   pub performs-plain : (p : PlainCall) → call ≡ Plain p → r ≡ plainOf s p → Performs s call cartridge wram vram oam r wram vram oam
   unfolding performOf wramAfter vramAfter oamAfter
-  performs-plain p is e = as-known (Plain p) wram vram oam is (record { result = e; work = refl; stored = refl; deposit = refl })
+  performs-plain p is e = as-known (Plain p) wram vram oam is (whole (Plain p) wram vram oam e refl refl refl)

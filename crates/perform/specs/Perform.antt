@@ -17,6 +17,7 @@ use Rattle.engine.specs.Lcd.{lcdCallOf, retiredCallOf}
 use Rattle.engine.specs.Pair.{nextPairOf, escapeDrainOf}
 use Rattle.queries.specs.Query.{flagOf, byteOf, tallyOf, statusOf, claimOf, parkWaits, requestStands, holdsCpu, seizesBus, switchInProgress, dividerRuns, atDoubleSpeed, cpuSteps, bankSelected, svbkWritten}
 use Rattle.engine.specs.Speed.{switchCallOf, blackoutCallOf, wakeCallOf}
+use Rattle.perform.specs.Declined.{Declined}
 use Rattle.perform.specs.Told.{toldOf}
 use Rattle.perform.specs.declared.call.Call.{Call}
 use Rattle.perform.specs.declared.call.Call.the-variants.{Write, Read, Bus, Plain}
@@ -117,3 +118,5 @@ pub record Performs (s : Cgb) (call : Call) (cartridge wram vram oam : List ℕ)
   pub work : lastWram ≡ wramAfter s call wram
   pub stored : lastVram ≡ vramAfter s call cartridge wram vram oam
   pub deposit : lastOam ≡ oamAfter s call cartridge wram vram oam
+  -- with a number, whichever: the state and the slices are those given
+  pub declined : (r .told .refusal ≡ 0 → ⊥) → Declined s wram vram oam r lastWram lastVram lastOam
