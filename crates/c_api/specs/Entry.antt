@@ -10,6 +10,7 @@ use Rattle.console.specs.PowerOn.{powerOnOf}
 use Rattle.console.specs.declared.Cgb.{Cgb}
 use Rattle.perform.specs.Perform.{performOf, wramAfter, vramAfter, oamAfter}
 use Rattle.c_api.specs.Answer.{answerBytes, refusedBytes}
+use Rattle.c_api.specs.Declined.{Declined}
 use Rattle.c_api.specs.Record.{codedOf}
 use Rattle.c_api.specs.declared.record.Coded.{Coded}
 use Rattle.c_api.specs.declared.record.Coded.the-variants.{Call, Unknown}
@@ -58,3 +59,5 @@ pub record Entered (state call cartridge wram vram oam : List ℕ) (r : ℕ) (la
       enteredOf state call cartridge wram vram oam
   -- byte 0 of the answer is the result
   pub number : byteAt lastAnswer 0 ≡ r
+  -- with a number, whichever: the state's bytes and the slices are those given
+  pub declined : (r ≡ 0 → ⊥) → Declined state wram vram oam r lastState lastAnswer lastWram lastVram lastOam

@@ -1,3 +1,4 @@
 pub mod Record
 pub mod Answer
+pub mod Declined
 pub mod Entry
