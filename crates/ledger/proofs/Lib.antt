@@ -1,6 +1,7 @@
 pub mod Bools
 pub mod Core
 pub mod Chosen
+pub mod Stays
 pub mod Keeps
 pub mod Pays
 pub mod Writes

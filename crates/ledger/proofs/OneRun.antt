@@ -145,6 +145,10 @@ unfolding stateAfter
 is-state (at-power-on compat s g) = g .told
 is-state (called {h = h} {s = s} c o k r) = ap (λ (x : Outcome). x .state) (returned-step r) ∙ ap (λ (x : Cgb). step x c .state) (is-state k)
 
+-- a history leaves one state
+pub same-state : {h : History} {s t : Cgb} → Runs h s → Runs h t → s ≡ t
+same-state a b = is-state a ∙ sym (is-state b)
+
 is-history : {h : History} {s : Cgb} → Runs h s → h ≡ historyOf (compatOf h) (callsOf h)
 unfolding historyOf
 is-history (at-power-on compat s g) = refl

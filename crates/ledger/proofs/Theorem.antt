@@ -29,6 +29,8 @@ use Rattle.ledger.proofs.Good.{since, Held, Good, keeps}
 use Rattle.ledger.proofs.Keeps.{step-keeps, never-7}
 use Rattle.ledger.proofs.General.{mode-of, general-count, held-pairs}
 use Rattle.ledger.proofs.Tied.{returned-step}
+use Rattle.ledger.proofs.OneRun.{same-state}
+use Rattle.ledger.proofs.Stays.{refused-stays}
 
 -- the ledger speaks of the engine
 abbrev Speaks : Cgb → Standing → Type 0
@@ -87,6 +89,12 @@ refused h e s (called {s = t} c o k r) =
     subst (λ (x : Outcome). accepts (x .reply) ≡ false → x .reply .pairs ≡ []) (sym (returned-step r))
     (none-refused t (standing h) (drawn h) (sound k) c)
 
+-- the run's own state in front of the call, which is the history's
+stays :
+    (h : History) (e : Event) (before after : Cgb) → Runs h before → Runs (then h e) after → accepts (e .reply) ≡ false → after ≡ before
+stays h e before after front (called {s = t} c o k r) refused =
+    subst (λ (x : Outcome). accepts (x .reply) ≡ false → x .state ≡ t) (sym (returned-step r)) (refused-stays t c) refused ∙ same-state k front
+
 -- an accepted fall has refilled the quota
 fresh :
     (h : History) (f : Event) (s : Cgb) → Runs (then h f) s → acceptedFall f ≡ true →
@@ -117,6 +125,7 @@ demand3 =
     record {
       next-of-ledger = owes;
       refused-none = refused;
+      refused-state = stays;
       same-left = λ h s r compat l p. let m : Match compat (coreOf s) l = subst (Speaks s) p (sound r .speaks) in m .left;
       balance = λ h s r compat l p. let m : Match compat (coreOf s) l = subst (Speaks s) p (sound r .speaks) in m .balance;
       at-most-two = λ h s r. omega (arith, sound r .budget);

@@ -74,6 +74,9 @@ pub record Demand3 : Type 0 where
       accepts (e .reply) ≡ true → Owed (effect compat (seen (e .call)) (e .reply) l) (e .reply .pairs)
   -- "Each gives its number, no pair" (Declined by state)
   pub refused-none : (h : History) (e : Event) (s : Cgb) → Runs (then h e) s → accepts (e .reply) ≡ false → e .reply .pairs ≡ []
+  -- "and state and slices as before": the state after it is the one in front of it (of slices each call's contract speaks)
+  pub refused-state :
+      (h : History) (e : Event) (before after : Cgb) → Runs h before → Runs (then h e) after → accepts (e .reply) ≡ false → after ≡ before
   -- "the engine's left is the ledger's"
   pub same-left :
       (h : History) (s : Cgb) → Runs h s → (compat : Bool) (l : Ledger) → standing h ≡ running compat l →
