@@ -1,6 +1,8 @@
 //! The run beside the original: each call is given to the original and to the port, which is linked as its exported
 //! entry, and answer, whole state and all of memory are compared after it. Half of the lists start at power-on, half of
-//! the calls at arbitrary states. A refusal is checked for its number and for state and memory as before.
+//! the calls at arbitrary states. A refusal is checked for its number, for an answer of that number and zeros, and for
+//! state and memory as before. What the original has no call for, a record of another kind and bytes that no state has,
+//! is given to the port alone, now and then.
 use crate::calls::{Call, Oracle, kind};
 use crate::layout::SIZE;
 use crate::memory;
@@ -37,6 +39,16 @@ struct Port {
     memory: [Vec<u8>; 4],
 }
 
+/// Offsets of docs/STATE-LAYOUT.md at which no state has 3 or more: the mode, flags, the latency's tag, spare bytes.
+const STRICT: [usize; 10] = [4, 8, 18, 24, 40, 42, 49, 90, 91, SIZE - 1];
+
+/// The port's result, the state after and the answer's record.
+struct Gave {
+    result: u8,
+    state: [u8; SIZE],
+    answer: [u8; 24],
+}
+
 const LENGTHS: [usize; 4] = [memory::CARTRIDGE, memory::WRAM, memory::VRAM, memory::OAM];
 
 impl Port {
@@ -51,10 +63,10 @@ impl Port {
         unsafe { cgb_power_on(state.as_mut_ptr(), compat as u8) };
         state
     }
-    /// The state after and the answer's record.
-    fn perform(&mut self, call: &Call, before: &[u8; SIZE]) -> ([u8; SIZE], [u8; 24]) {
+    fn perform(&mut self, call: &Call, before: &[u8; SIZE]) -> Gave {
         let mut state = *before;
-        let mut answer = [0u8; 24];
+        // Whatever stood in the answer must not show in it.
+        let mut answer = [0xA5; 24];
         let [cartridge, wram, vram, oam] = &mut self.memory;
         let n = call.lengths.map(|n| n as usize);
         let result = unsafe {
@@ -72,15 +84,20 @@ impl Port {
                 n[3],
             )
         };
-        assert_eq!(result, answer[0]);
-        (state, answer)
+        Gave { result, state, answer }
     }
+}
+
+/// A refused call's answer: the number and zeros.
+fn refused(number: u8) -> [u8; 24] {
+    let mut out = [0; 24];
+    out[0] = number;
+    out
 }
 
 /// The original's answer in the port's layout.
 fn expected(which: u8, a: &[u8; 32]) -> [u8; 24] {
-    let mut out = [0u8; 24];
-    out[0] = a[0];
+    let mut out = refused(a[0]);
     if a[0] != 0 {
         return out;
     }
@@ -110,6 +127,9 @@ struct Report {
     refusals: [[u64; 15]; 27],
     answers: [[u64; 3]; 27],
     deposits: u64,
+    /// Given to the port alone: records of no call, and bytes that no state has.
+    no_call: u64,
+    no_state: u64,
     differ: u64,
 }
 
@@ -127,6 +147,7 @@ impl Report {
             println!("{:<20} {:>12}  {}; {}", NAMES[k], self.calls[k], answers.join(", "), refused.join(", "));
         }
         println!("deposits in OAM {}", self.deposits);
+        println!("records of no call, 6: {}; bytes that no state has, 7: {}", self.no_call, self.no_state);
     }
 }
 
@@ -159,33 +180,71 @@ impl Run {
         }
     }
 
+    /// The bytes behind the slices.
+    fn spare(&self) -> [u8; 4] {
+        std::array::from_fn(|k| self.port.memory[k][LENGTHS[k]])
+    }
+
+    fn differs(&mut self, what: String) {
+        if self.report.differ < 20 {
+            println!("differs: {what}");
+        }
+        self.report.differ += 1;
+        self.synchronise();
+    }
+
+    /// A call that is none, or at bytes that are no state's, or both: 7, then 6.
+    fn decline(&mut self, r: &mut Random, kinds: &[u8], before: &[u8; SIZE]) {
+        let mut call = vectors::call(r, kinds);
+        let mut state = *before;
+        let no_state = r.flag();
+        if no_state {
+            state[r.pick(&STRICT)] = 3 + r.below(253) as u8;
+        }
+        if !no_state || r.flag() {
+            call.record[0] = r.pick(&[0, kind::LAST + 1, 99, 255]);
+        }
+        let spare = self.spare();
+        let Gave { result, state: after, answer } = self.port.perform(&call, &state);
+        let number = if no_state { 7 } else { 6 };
+        let mut same = result == number && answer == refused(number) && after == state;
+        same &= self.spare() == spare;
+        same &= self.same_memory();
+        if !same {
+            self.differs(format!("{call:?}\n  before {state:?}\n  wanted {number}\n  port {answer:?}"));
+        }
+        if no_state {
+            self.report.no_state += 1;
+        } else {
+            self.report.no_call += 1;
+        }
+    }
+
     /// One call on both sides; the state after.
     fn step(&mut self, mut call: Call, before: &[u8; SIZE]) -> [u8; SIZE] {
         self.raise(&mut call);
         let which = call.record[0] as usize;
-        let spare: Vec<u8> = (0..4).map(|k| self.port.memory[k][LENGTHS[k]]).collect();
+        let spare = self.spare();
         let outcome = self.oracle.perform(&call, before);
         if outcome.answer[0] == 14 {
             // An overflow is a panic of the original, after which it starts anew.
             self.synchronise();
         }
-        let (state, answer) = self.port.perform(&call, before);
-        let mut same = state == outcome.state && answer == expected(call.record[0], &outcome.answer);
-        same &= (0..4).all(|k| self.port.memory[k][LENGTHS[k]] == spare[k]);
+        let Gave { result, state, answer } = self.port.perform(&call, before);
+        let number = outcome.answer[0];
+        let mut same = result == number && answer == expected(call.record[0], &outcome.answer) && state == outcome.state;
+        same &= self.spare() == spare;
         same &= self.same_memory();
         if !same {
-            if self.report.differ < 20 {
-                println!("differs: {call:?}\n  before {before:?}\n  original {:?}\n  port {answer:?}", outcome.answer);
-            }
-            self.report.differ += 1;
-            self.synchronise();
+            let original = outcome.answer;
+            self.differs(format!("{call:?}\n  before {before:?}\n  original {original:?}\n  port {answer:?}"));
         }
         self.report.calls[which] += 1;
-        self.report.refusals[which][answer[0] as usize] += 1;
-        if answer[0] == 0 {
+        self.report.refusals[which][number as usize] += 1;
+        if number == 0 {
             self.report.answers[which][answer[2].min(2) as usize] += 1;
         }
-        if call.record[0] == kind::BUS && answer[0] == 0 && answer[2] > 0 && before[40] == 1 {
+        if call.record[0] == kind::BUS && number == 0 && answer[2] > 0 && before[40] == 1 {
             self.report.deposits += 1;
         }
         outcome.state
@@ -209,6 +268,8 @@ pub fn run(given: &[String], usage: &str) {
     };
     let kinds: Vec<u8> = (1..=kind::LAST).collect();
     let mut r = Random::new(seed);
+    // A second stream, so that a seed gives the same calls to both sides as ever.
+    let mut declining = Random::new(!seed);
     let port = Port::new(&mut r);
     let mut run = Run { oracle: Oracle::new(), port, report: Report::default(), rising: None };
     run.synchronise();
@@ -230,6 +291,9 @@ pub fn run(given: &[String], usage: &str) {
             aim(&mut r, &mut call, &before);
             now = run.step(call, &before);
             given += 1;
+            if declining.one_in(64) {
+                run.decline(&mut declining, &kinds, &now);
+            }
             if given % 10_000_000 == 0 {
                 eprintln!("{given} of {count}, {} differ", run.report.differ);
             }

@@ -1,0 +1,151 @@
+//! The exported entry as a C program calls it, with the bytes of include/cgb_vram_dma.h: what the typed wrapper cannot ask. A
+//! refused call leaves document 01's number and zeros in the answer, over whatever stood there, and all else as given.
+use cgb_vram_dma::{CARTRIDGE_BYTES, Cgb, OAM_BYTES, VRAM_BYTES, WRAM_BYTES};
+
+unsafe extern "C" {
+    fn cgb_perform(
+        state: *mut u8,
+        call: *const u8,
+        answer: *mut u8,
+        cartridge: *const u8,
+        cartridge_bytes: usize,
+        wram: *mut u8,
+        wram_bytes: usize,
+        vram: *mut u8,
+        vram_bytes: usize,
+        oam: *mut u8,
+        oam_bytes: usize,
+    ) -> u8;
+}
+
+#[derive(Clone, PartialEq)]
+struct Caller {
+    state: [u8; Cgb::BYTES],
+    cartridge: Vec<u8>,
+    wram: Vec<u8>,
+    vram: Vec<u8>,
+    oam: Vec<u8>,
+}
+
+impl Caller {
+    fn new() -> Self {
+        let filled = |n: usize| (0..n).map(|i| (i * 5 + 1) as u8).collect();
+        Self {
+            state: *Cgb::power_on(false).bytes(),
+            cartridge: filled(CARTRIDGE_BYTES),
+            wram: filled(WRAM_BYTES),
+            vram: filled(VRAM_BYTES),
+            oam: filled(OAM_BYTES),
+        }
+    }
+    fn slices(&mut self) -> [&mut Vec<u8>; 4] {
+        [&mut self.cartridge, &mut self.wram, &mut self.vram, &mut self.oam]
+    }
+    fn perform(&mut self, call: [u8; 16], answer: &mut [u8; 24]) -> u8 {
+        // SAFETY: each pointer comes from a borrow of the length that goes with it, and no two overlap.
+        unsafe {
+            cgb_perform(
+                self.state.as_mut_ptr(),
+                call.as_ptr(),
+                answer.as_mut_ptr(),
+                self.cartridge.as_ptr(),
+                self.cartridge.len(),
+                self.wram.as_mut_ptr(),
+                self.wram.len(),
+                self.vram.as_mut_ptr(),
+                self.vram.len(),
+                self.oam.as_mut_ptr(),
+                self.oam.len(),
+            )
+        }
+    }
+    /// The call is refused with the number: the answer is that and zeros, all else as before.
+    fn refuses(&mut self, call: [u8; 16], number: u8) {
+        let before = self.clone();
+        // What an accepted call left: a tally of FFs.
+        let mut answer = [0xFF; 24];
+        answer[0] = 0;
+        let result = self.perform(call, &mut answer);
+        let mut expected = [0; 24];
+        expected[0] = number;
+        assert_eq!((result, answer), (number, expected), "{call:?}");
+        assert!(*self == before, "{call:?}");
+    }
+}
+
+fn kind(kind: u8) -> [u8; 16] {
+    let mut call = [0; 16];
+    call[0] = kind;
+    call
+}
+
+/// Bytes 2 and 3 the address, 4 the value, 5 the LCD or the flags.
+fn call(kind: u8, address: u16, value: u8, flags: u8) -> [u8; 16] {
+    let mut call = [0; 16];
+    call[0] = kind;
+    call[2..4].copy_from_slice(&address.to_le_bytes());
+    call[4] = value;
+    call[5] = flags;
+    call
+}
+
+/// A flag of 2, a mode of 3 and a spare byte of 1 are no state's (docs/STATE-LAYOUT.md).
+fn damaged() -> impl Iterator<Item = Caller> {
+    [(8, 2), (4, 3), (91, 1), (247, 1)].into_iter().map(|(at, byte)| {
+        let mut caller = Caller::new();
+        caller.state[at] = byte;
+        caller
+    })
+}
+
+#[test]
+fn a_record_of_no_call_after_an_accepted_one() {
+    let mut caller = Caller::new();
+    let mut answer = [0xFF; 24];
+    assert_eq!(caller.perform(call(1, 0xFF55, 0x00, 1), &mut answer), 0);
+    assert_eq!(caller.perform(kind(14), &mut answer), 0);
+    assert_eq!((answer[0], answer[6]), (0, 16), "the tally's left");
+    assert_eq!(caller.perform(kind(99), &mut answer), 6);
+    assert_eq!(answer[0], 6);
+    assert!(answer[1..].iter().all(|byte| *byte == 0));
+    for other in [0, 27, 99, 255] {
+        caller.refuses(kind(other), 6);
+    }
+}
+
+#[test]
+fn bytes_that_no_state_has_get_7_before_6() {
+    for mut caller in damaged() {
+        for any in (0..=26).chain([27, 99, 255]) {
+            caller.refuses(kind(any), 7);
+        }
+    }
+}
+
+#[test]
+fn a_performed_call_s_refusal_has_the_same_record() {
+    let mut caller = Caller::new();
+    let mut answer = [0; 24];
+    assert_eq!(caller.perform(call(1, 0xFF55, 0x83, 1), &mut answer), 0);
+    caller.refuses(call(2, 0, 4, 0), 1);
+    caller.refuses(call(4, 0, 5, 0), 3);
+    caller.refuses(call(8, 0xFF68, 0, 0), 4);
+    caller.refuses(call(1, 0xFF68, 1, 1), 4);
+    caller.refuses(call(4, 0, 0, 1), 5);
+    caller.refuses(call(4, 0, 0, 0), 12);
+    // A WRAM bank of 8 is no run's.
+    let mut unreached = caller.clone();
+    unreached.state[41] = 8;
+    for any in 1..=26 {
+        unreached.refuses(kind(any), 7);
+    }
+    unreached.refuses(kind(99), 6);
+    for which in 0..4 {
+        let mut short = caller.clone();
+        short.slices()[which].pop();
+        short.refuses(call(9, 0, 0, 1), 2);
+    }
+    assert_eq!(caller.perform(call(1, 0xFF4D, 1, 1), &mut answer), 0);
+    assert_eq!(caller.perform(call(4, 0, 4, 0), &mut answer), 0);
+    caller.refuses(call(4, 0, 4, 0), 11);
+}
