@@ -1,5 +1,5 @@
 -- What a declined call leaves, whichever call it is: "Each gives its number, no pair, and state and slices as before" (document
--- 01, "Declined by state"; demand 1 says the same of every call).
+-- 01, "Declined by state").
 use Prim.Native.Nat.{ℕ}
 use mathlib.Core.Path.{_≡_}
 use mathlib.Core.List.{List, [], _∷_}
