@@ -3,17 +3,23 @@ use Prim.Native.Nat.{ℕ, zero, suc, _<_}
 use native.Mathlib.Omega.{arith}
 use mathlib.Core.Path.{_≡_, refl, ap, _∙_}
 use mathlib.Core.Bool.{Bool, true, false, _&&_, false≢true}
-use mathlib.Core.List.{List, [], _∷_}
+use mathlib.Core.List.{List, [], _∷_, _++_}
 use lib.Dec.{eqb}
 use borrow.Author.Tests.{eqb-true}
 use Rattle.console.specs.PowerOn.{powerOnOf, dmaAtRest}
+use Rattle.console.specs.declared.Cgb.{Cgb}
+use Rattle.memory.specs.Lengths.{wramLength}
 use Rattle.console.specs.Reached.{unreached}
 use Rattle.hdma.specs.Hdma5.{hdma5Written, armedOf, cancelledOf, startedOf, statusByte}
 use Rattle.registers.specs.Map.{placeOf, locksAt}
+use Rattle.registers.specs.Read.{byteAt}
 use Rattle.registers.specs.Write.{mapWriteOf, storedOf}
-use Rattle.bus.specs.Commit.{takenOf, pairsOf, busTaken, vramAfter}
+use Rattle.bus.specs.Arbitration.{contends, stalls, arbitrationOf, arbitratedOf}
+use Rattle.bus.specs.Commit.{takenOf, pairsOf, busTaken, bytesOf, vramAfter, oamAfter}
 use Rattle.bus.specs.Deposit.{deposited}
 use Rattle.bus.specs.Source.{sourceByte}
+use Rattle.bus.specs.Store.{oamWith}
+use Rattle.transfer.specs.Conflict.{willMove}
 use Rattle.transfer.specs.Pair.{movingOf, cursorAfter, blockAfter, arbAfter, advancedOf, nextByteOf}
 use Rattle.transfer.specs.Questions.{seizesBus}
 use Rattle.transfer.specs.declared.pair.BytePair.{BytePair}
@@ -24,15 +30,17 @@ use Rattle.fall_edge.specs.Fall.{fallOf, ranOf, decidedOf, servedOf}
 use Rattle.speed_switch.specs.Switch as switch
 use Rattle.speed_switch.specs.Switch.{outcomeOf, ungranted, cutOf, discardedOf, gradedOf, upwardOf, engineAfter, blackoutOf, switchedOf}
 use Rattle.speed_switch.specs.Blackout.{drainedOf}
-use Rattle.bus_calls.specs.Access.{accessRefusal, writeOf}
-use Rattle.bus_calls.specs.BusCall.{wrongLengths, busRefusal, busPairs, busAnswer, busState, busVram}
+use Rattle.bus_calls.specs.Access.{accessRefusal, readOf, writeOf}
+use Rattle.bus_calls.specs.Bus.{arbitrationCallOf}
+use Rattle.bus_calls.specs.BusCall.{Lengths, lengthsOf, wrongLengths, busRefusal, busPairs, busAnswer, busState, busVram, busOam}
 use Rattle.engine.specs.Fall.{fallRefusal, fallenState, fallCallOf}
-use Rattle.answers.specs.Answers.{stateRefusal}
+use Rattle.answers.specs.Answers.{stateRefusal, byteAnswer}
+use Rattle.answers.specs.declared.ByteAnswer.the-variants as byte
 use Rattle.engine.specs.Speed.{defers, switchRefusal, switchCallOf, blackoutCallOf}
 use Rattle.ledger.specs.Ledger.{empty, followed, paid, paidAll, entered}
 use Rattle.ledger.specs.Calls.{step, seen}
 use Rattle.ledger.proofs.Bools.{and-left, and-right}
-use Rattle.ledger.specs.Cases.{World, start, live, after, vramRun, run, upward, k1, K1, K2, K3, k4, K4, k5, K5, k6, K6, K7, K8, K10, Cases}
+use Rattle.ledger.specs.Cases.{World, start, live, after, vramRun, run, ff55-is, to, falls, heldBeside, lengths, upward, k1, K1, two-falls, K2, K3, k4, K4, k5, K5, k6, K6, K7, k8, Lent, first-lands, second-lands, K8, K10, Cases}
 
 -- lists of pairs are compared number by number
 abbrev same : List BytePair → List BytePair → Bool
@@ -52,21 +60,32 @@ is-same (p ∷ ps) (q ∷ qs) h =
     ap (λ (x : BytePair). x ∷ ps) (λ i. record { source = source i; dest = dest i })
     ∙ ap (λ (xs : List BytePair). q ∷ xs) (is-same ps qs (and-right (eqb (p .dest) (q .dest)) (same ps qs) rest))
 
+-- a read of FF55 looks at no more of the work RAM than its length
+ff55-by : (v : ℕ) (w : World) → byteAnswer (accessRefusal (w .engine) wramLength 0xFF55) (byteAt (w .engine) [] (placeOf 0xFF55)) ≡ byte.Byte v → ff55-is v w
+unfolding readOf placeOf
+ff55-by v w h wram sized =
+    ap (λ (n : ℕ). byteAnswer (accessRefusal (w .engine) n 0xFF55) (byteAt (w .engine) [] (placeOf 0xFF55))) sized ∙ h
+
+-- and a bus call's deposit at no more of the four slices than their lengths
+at-exit : (s : Cgb) (edge : ℕ) (m : Lent) (last : List ℕ) → busOam s (heldBeside edge) lengths (m .cartridge) (m .wram) (m .oam) ≡ last → busOam s (heldBeside edge) (lengthsOf (m .cartridge) (m .wram) (m .vram) (m .oam)) (m .cartridge) (m .wram) (m .oam) ≡ last
+at-exit s edge m last h =
+    ap (λ (n : Lengths). busOam s (heldBeside edge) n (m .cartridge) (m .wram) (m .oam)) (m .sized) ∙ h
+
 case1 : (mode : ℕ) → mode < 4 → K1 mode
 unfolding start live after step seen writeOf accessRefusal unreached placeOf mapWriteOf storedOf locksAt hdma5Written armedOf cancelledOf startedOf statusByte powerOnOf dmaAtRest entered paidAll followed empty fallCallOf fallRefusal fallenState fallOf viewOf ranOf decidedOf stages.startedOf servedOf observedArb observedOf judgedBlock ungrantedArb probationOf droppedBlock haltLatchArb haltLatchOf agedArb pendedArb grants grantedArb gatedOf refilledOf blindsArb blindsOf commitBlock commitArb commitOf tenureArb tenureOf pendArb pendOf readyBlock readinessOf seizedBlock seizureOf settledOf movingOf seizesBus busAnswer busRefusal wrongLengths busPairs busState busTaken pairsOf takenOf nextByteOf advancedOf cursorAfter blockAfter arbAfter paid vramRun busVram vramAfter sourceByte
-case1 zero h = record { moved = is-same _ _ refl; reads = refl; counted = (refl, refl); stored = λ cartridge wram vram. refl }
-case1 (suc zero) h = record { moved = is-same _ _ refl; reads = refl; counted = (refl, refl); stored = λ cartridge wram vram. refl }
-case1 (suc (suc zero)) h = record { moved = is-same _ _ refl; reads = refl; counted = (refl, refl); stored = λ cartridge wram vram. refl }
-case1 (suc (suc (suc zero))) h = record { moved = is-same _ _ refl; reads = refl; counted = (refl, refl); stored = λ cartridge wram vram. refl }
+case1 zero h = record { moved = is-same _ _ refl; reads = ff55-by 0xFF (k1 0) refl; counted = (refl, refl); stored = λ cartridge wram vram. refl }
+case1 (suc zero) h = record { moved = is-same _ _ refl; reads = ff55-by 0xFF (k1 1) refl; counted = (refl, refl); stored = λ cartridge wram vram. refl }
+case1 (suc (suc zero)) h = record { moved = is-same _ _ refl; reads = ff55-by 0xFF (k1 2) refl; counted = (refl, refl); stored = λ cartridge wram vram. refl }
+case1 (suc (suc (suc zero))) h = record { moved = is-same _ _ refl; reads = ff55-by 0xFF (k1 3) refl; counted = (refl, refl); stored = λ cartridge wram vram. refl }
 case1 (suc (suc (suc (suc m)))) h = absurd (omega arith)
 
 case2 : K2
 unfolding start live after step seen writeOf accessRefusal unreached placeOf mapWriteOf storedOf locksAt hdma5Written armedOf cancelledOf startedOf statusByte powerOnOf dmaAtRest entered paidAll followed empty fallCallOf fallRefusal fallenState fallOf viewOf ranOf decidedOf stages.startedOf servedOf observedArb observedOf judgedBlock ungrantedArb probationOf droppedBlock haltLatchArb haltLatchOf agedArb pendedArb grants grantedArb gatedOf refilledOf blindsArb blindsOf commitBlock commitArb commitOf tenureArb tenureOf pendArb pendOf readyBlock readinessOf seizedBlock seizureOf settledOf movingOf seizesBus busAnswer busRefusal wrongLengths busPairs busState busTaken pairsOf takenOf nextByteOf advancedOf cursorAfter blockAfter arbAfter paid
-case2 = record { second = refl; third = refl; fourth = refl; fifth = refl; moved = is-same _ _ refl }
+case2 = record { second = ff55-by 0x00 (run (two-falls 0x80 tt)) refl; third = ff55-by 0xFF (run (two-falls 0x80 tt ++ (falls 0 ∷ []))) refl; fourth = refl; fifth = refl; moved = is-same _ _ refl }
 
 case3 : K3
 unfolding start live after step seen writeOf accessRefusal unreached placeOf mapWriteOf storedOf locksAt hdma5Written armedOf cancelledOf startedOf statusByte powerOnOf dmaAtRest entered paidAll followed empty
-case3 = record { reads = refl }
+case3 = record { reads = ff55-by 0x80 (run (to 0xFF55 0x83 tt ∷ to 0xFF55 0x00 tt ∷ [])) refl }
 
 case4 : K4
 unfolding start live after step seen writeOf accessRefusal unreached placeOf mapWriteOf storedOf locksAt hdma5Written armedOf cancelledOf startedOf statusByte powerOnOf dmaAtRest entered paidAll followed empty fallCallOf fallRefusal fallenState fallOf viewOf ranOf decidedOf stages.startedOf servedOf observedArb observedOf judgedBlock ungrantedArb probationOf droppedBlock haltLatchArb haltLatchOf agedArb pendedArb grants grantedArb gatedOf refilledOf blindsArb blindsOf commitBlock commitArb commitOf tenureArb tenureOf pendArb pendOf readyBlock readinessOf seizedBlock seizureOf settledOf movingOf seizesBus busAnswer busRefusal wrongLengths busPairs busState busTaken pairsOf takenOf nextByteOf advancedOf cursorAfter blockAfter arbAfter paid
@@ -78,19 +97,30 @@ case5 = record { moved = is-same _ _ refl; cut-off = refl }
 
 case6 : K6
 unfolding start live after step seen writeOf accessRefusal unreached placeOf mapWriteOf storedOf locksAt hdma5Written armedOf cancelledOf startedOf statusByte powerOnOf dmaAtRest entered paidAll followed empty fallCallOf fallRefusal fallenState fallOf viewOf ranOf decidedOf stages.startedOf servedOf observedArb observedOf judgedBlock ungrantedArb probationOf droppedBlock haltLatchArb haltLatchOf agedArb pendedArb grants grantedArb gatedOf refilledOf blindsArb blindsOf commitBlock commitArb commitOf tenureArb tenureOf pendArb pendOf readyBlock readinessOf seizedBlock seizureOf settledOf movingOf seizesBus busAnswer busRefusal wrongLengths busPairs busState busTaken pairsOf takenOf nextByteOf advancedOf cursorAfter blockAfter arbAfter paid switchCallOf switchRefusal switchedOf defers switch.readyBlock outcomeOf ungranted cutOf discardedOf gradedOf upwardOf engineAfter blackoutOf blackoutCallOf drainedOf stateRefusal
-case6 = record { cut = refl; moved = is-same _ _ refl; free = refl; left = (refl, refl); reads = refl }
+case6 = record { cut = refl; moved = is-same _ _ refl; free = refl; left = (refl, refl); reads = ff55-by 0x80 k6 refl }
 
 case7 : K7
 unfolding start live after step seen writeOf accessRefusal unreached placeOf mapWriteOf storedOf locksAt hdma5Written armedOf cancelledOf startedOf statusByte powerOnOf dmaAtRest entered paidAll followed empty switchCallOf switchRefusal switchedOf defers switch.readyBlock outcomeOf ungranted cutOf discardedOf gradedOf upwardOf engineAfter blackoutOf blackoutCallOf drainedOf stateRefusal
 case7 = record { up = refl; down = refl; again = refl }
 
-case8 : (p q : BytePair) (b c : ℕ) (oam : List ℕ) → K8 p q b c oam
-unfolding deposited
-case8 p q b c oam = record { at-98 = refl; at-92 = refl; at-96 = refl; at-94 = refl; both-0 = refl }
+case8 : K8
+unfolding start live after step seen writeOf accessRefusal unreached placeOf mapWriteOf storedOf locksAt hdma5Written armedOf cancelledOf startedOf statusByte powerOnOf dmaAtRest entered paidAll followed empty fallCallOf fallRefusal fallenState fallOf viewOf ranOf decidedOf stages.startedOf servedOf observedArb observedOf judgedBlock ungrantedArb probationOf droppedBlock haltLatchArb haltLatchOf agedArb pendedArb grants grantedArb gatedOf refilledOf blindsArb blindsOf commitBlock commitArb commitOf tenureArb tenureOf pendArb pendOf readyBlock readinessOf seizedBlock seizureOf settledOf movingOf seizesBus busAnswer busRefusal wrongLengths busPairs busState busTaken pairsOf takenOf nextByteOf advancedOf cursorAfter blockAfter arbAfter paid busOam oamAfter bytesOf deposited sourceByte oamWith arbitrationCallOf arbitratedOf arbitrationOf contends stalls willMove stateRefusal
+case8 =
+    record {
+      block-edge = refl;
+      contended = refl;
+      moved = is-same _ _ refl;
+      at-98 = λ m. at-exit (k8 100 .engine) 98 m (second-lands m) refl;
+      at-92 = λ m. at-exit (k8 100 .engine) 92 m (second-lands m) refl;
+      at-96 = λ m. at-exit (k8 100 .engine) 96 m (first-lands m) refl;
+      at-94 = λ m. at-exit (k8 100 .engine) 94 m (first-lands m) refl;
+      both-0 = λ m. at-exit (k8 0 .engine) 0 m (second-lands m) refl;
+      wraps = λ m. at-exit (k8 0 .engine) 4 m (first-lands m) refl;
+    }
 
 case10 : K10
 unfolding start live after step seen writeOf accessRefusal unreached placeOf mapWriteOf storedOf locksAt hdma5Written armedOf cancelledOf startedOf statusByte powerOnOf dmaAtRest entered paidAll followed empty
-case10 = record { reads = refl }
+case10 = record { reads = ff55-by 0xFF (after true (start true) (to 0xFF55 0x00 tt ∷ [])) refl }
 
 pub cases : Cases
 cases =

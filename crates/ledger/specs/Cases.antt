@@ -1,22 +1,24 @@
--- The cases (document 01, "Cases"), with the ledger beside them. A bus call here is by its slices' lengths: what it hands out is
--- the same for any contents.
-use Prim.Native.Nat.{ℕ, zero, suc, _+_, _%_, _<_}
+-- The cases (document 01, "Cases"), with the ledger beside them: lists of calls from power-on, run by the calls' own definitions.
+-- In a list a bus call is by its slices' lengths: what it hands out is the same for any contents.
+use Prim.Native.Nat.{ℕ, zero, suc, _+_, _-_, _<_}
 use mathlib.Core.Path.{_≡_}
 use mathlib.Core.Bool.{Bool, true, false}
 use mathlib.Core.List.{List, [], _∷_, _++_}
 use lib.Dec.{T, ltb}
-use lib.ListN.{set, getD}
+use lib.ListN.{length, set, getD}
 use Rattle.console.specs.PowerOn.{powerOnOf}
 use Rattle.console.specs.declared.Cgb.{Cgb}
-use Rattle.registers.specs.Map.{placeOf}
-use Rattle.registers.specs.Read.{byteAt}
-use Rattle.bus.specs.Deposit.{phaseOf, deposited}
-use Rattle.bus.specs.Store.{oamWith}
+use Rattle.memory.specs.Lengths.{cartridgeLength, wramLength, vramLength, oamLength}
+use Rattle.bus.specs.declared.arbitration.ArbitrationInput.{ArbitrationInput}
 use Rattle.bus.specs.declared.commit.BusInput.{BusInput}
 use Rattle.transfer.specs.declared.pair.BytePair.{BytePair}
-use Rattle.bus_calls.specs.BusCall.{Lengths, busAnswer, busVram}
+use Rattle.bus_calls.specs.Access.{readOf}
+use Rattle.bus_calls.specs.Bus.{arbitrationCallOf}
+use Rattle.bus_calls.specs.BusCall.{Lengths, lengthsOf, busAnswer, busVram, busOam}
 use Rattle.engine.specs.Speed.{switchCallOf}
+use Rattle.answers.specs.declared.ArbitrationAnswer.the-variants as arbitration
 use Rattle.answers.specs.declared.BusAnswer.the-variants as bus
+use Rattle.answers.specs.declared.ByteAnswer.the-variants as byte
 use Rattle.answers.specs.declared.SwitchAnswer.the-variants as switched
 use Rattle.speed_switch.specs.declared.switch.SwitchInput.{SwitchInput}
 use Rattle.ledger.specs.Ledger.{Ledger, empty, entered}
@@ -75,9 +77,9 @@ abbrev pub copied : ℕ → List ℕ → List ℕ → List ℕ
 copied zero cartridge vram = vram
 copied (suc n) cartridge vram = set (copied n cartridge vram) n (getD cartridge n 0)
 
--- FF55, which looks at no work RAM
-abbrev pub ff55 : World → ℕ
-ff55 w = byteAt (w .engine) [] (placeOf 0xFF55)
+-- "FF55 is v": a read call of it answers v, whatever the work RAM that is lent to it holds
+abbrev pub ff55-is : ℕ → World → Type 0
+ff55-is v w = (wram : List ℕ) → length wram ≡ wramLength → readOf (w .engine) wram 0xFF55 ≡ byte.Byte v
 
 -- "LCD on"
 abbrev pub to : (address value : ℕ) → T (ltb value 256) → Call
@@ -91,11 +93,15 @@ fallsAt edge mode =
 abbrev pub falls : ℕ → Call
 falls mode = fallsAt 0 mode
 
+-- a held bus, beside an OAM DMA that started at this edge
+abbrev pub heldBeside : ℕ → BusInput
+heldBeside edge = record { hold = true; suspended = false; «oam_start_edge» = edge }
+
 abbrev pub held : BusInput
-held = record { hold = true; suspended = false; «oam_start_edge» = 0 }
+held = heldBeside 0
 
 abbrev pub lengths : Lengths
-lengths = record { cartridge = 40960; wram = 32768; vram = 16384; oam = 160 }
+lengths = record { cartridge = cartridgeLength; wram = wramLength; vram = vramLength; oam = oamLength }
 
 abbrev pub heldBus : Call
 heldBus = bus-call held lengths
@@ -122,7 +128,7 @@ k1 mode = run (k1-calls mode)
 
 pub record K1 (mode : ℕ) : Type 0 where
   pub moved : k1 mode .pairs ≡ upward 16 0x0000 0x8000
-  pub reads : ff55 (k1 mode) ≡ 0xFF
+  pub reads : ff55-is 0xFF (k1 mode)
   pub counted : (k1 mode .ledger .pairs ≡ 16) × (k1 mode .ledger .left ≡ 0)
   -- with any memory contents
   pub stored : (cartridge wram vram : List ℕ) → vramRun (start false) (k1-calls mode) cartridge wram vram ≡ copied 16 cartridge vram
@@ -139,15 +145,15 @@ abbrev pub five-falls : (v : ℕ) → T (ltb v 256) → List Call
 five-falls v byte = four-falls v byte ++ (heldBus ∷ falls 0 ∷ [])
 
 pub record K2 : Type 0 where
-  pub second : ff55 (run (two-falls 0x80 tt)) ≡ 0x00
-  pub third : ff55 (run (two-falls 0x80 tt ++ (falls 0 ∷ []))) ≡ 0xFF
+  pub second : ff55-is 0x00 (run (two-falls 0x80 tt))
+  pub third : ff55-is 0xFF (run (two-falls 0x80 tt ++ (falls 0 ∷ [])))
   pub fourth : busAnswer (run (four-falls 0x80 tt) .engine) held lengths ≡ bus.Moved 0 true
   pub fifth : busAnswer (run (five-falls 0x80 tt) .engine) held lengths ≡ bus.Moved 2 false
   pub moved : run (five-falls 0x80 tt ++ (heldBus ∷ [])) .pairs ≡ upward 2 0x0000 0x8000
 
 -- "83 then 00 in front of any fall: 80"
 pub record K3 : Type 0 where
-  pub reads : ff55 (run (to 0xFF55 0x83 tt ∷ to 0xFF55 0x00 tt ∷ [])) ≡ 0x80
+  pub reads : ff55-is 0x80 (run (to 0xFF55 0x83 tt ∷ to 0xFF55 0x00 tt ∷ []))
 
 -- "destination FFF0h, General 01: 16 pairs, cut off 16"
 abbrev pub k4 : World
@@ -178,7 +184,7 @@ pub record K6 : Type 0 where
   pub moved : k6 .pairs ≡ upward 3 0x0000 0x8000
   pub free : k6 .ledger .free-pairs ≡ 1
   pub left : (k6 .engine .«vram_dma» .cursor .remaining ≡ 30) × (k6 .ledger .left ≡ 30)
-  pub reads : ff55 k6 ≡ 0x80
+  pub reads : ff55-is 0x80 k6
 
 -- "up at phase 3, down, up, each after FF4D=01, unheld, no interrupt ready, drained between: 131,077, 262,144, 131,079"
 abbrev pub k7-up : World
@@ -195,18 +201,57 @@ pub record K7 : Type 0 where
   pub down : k7-down .engine .«speed_switch_blackout» ≡ 262144
   pub again : k7-again .engine .«speed_switch_blackout» ≡ 131079
 
--- "block edge 100: OAM edges 98, 92 second, 96, 94 first; both 0: second": of two pairs p and q with the bytes b and c, in a
--- contended call
-pub record K8 (p q : BytePair) (b c : ℕ) (oam : List ℕ) : Type 0 where
-  pub at-98 : deposited true 2 (p ∷ q ∷ []) (b ∷ c ∷ []) (phaseOf 100 98) oam ≡ oamWith oam (0xFE00 + q .source % 256) c
-  pub at-92 : deposited true 2 (p ∷ q ∷ []) (b ∷ c ∷ []) (phaseOf 100 92) oam ≡ oamWith oam (0xFE00 + q .source % 256) c
-  pub at-96 : deposited true 2 (p ∷ q ∷ []) (b ∷ c ∷ []) (phaseOf 100 96) oam ≡ oamWith oam (0xFE00 + p .source % 256) b
-  pub at-94 : deposited true 2 (p ∷ q ∷ []) (b ∷ c ∷ []) (phaseOf 100 94) oam ≡ oamWith oam (0xFE00 + p .source % 256) b
-  pub both-0 : deposited true 2 (p ∷ q ∷ []) (b ∷ c ∷ []) (phaseOf 0 0) oam ≡ oamWith oam (0xFE00 + q .source % 256) c
+-- "block edge 100: OAM edges 98, 92 second, 96, 94 first; both 0: second". As K2, with source 1230h: the third fall commits the
+-- block, at the block edge
+abbrev pub k8-committed : ℕ → List Call
+k8-committed edge = to 0xFF51 0x12 tt ∷ to 0xFF52 0x30 tt ∷ to 0xFF55 0x80 tt ∷ falls 3 ∷ falls 0 ∷ fallsAt edge 0 ∷ []
+
+-- the set-up cell taken, two pairs to move
+abbrev pub k8-ready : ℕ → World
+k8-ready edge = run (k8-committed edge ++ (falls 0 ∷ heldBus ∷ falls 0 ∷ []))
+
+-- and the held bus arbitrated while OAM DMA drives a byte
+abbrev pub besideOam : ArbitrationInput
+besideOam = record { hold = true; suspended = false; «oam_transferring» = true }
+
+abbrev pub k8 : ℕ → World
+k8 edge = after false (k8-ready edge) (arbitrate besideOam ∷ [])
+
+-- memory of any contents, lent to a bus call
+pub record Lent : Type 0 where
+  pub cartridge : List ℕ
+  pub wram : List ℕ
+  pub vram : List ℕ
+  pub oam : List ℕ
+  pub sized : lengthsOf cartridge wram vram oam ≡ lengths
+
+-- OAM at exit of the bus call, which comes next: its block's edge, and the edge at which OAM DMA started
+abbrev pub k8-oam : (block-edge oam-edge : ℕ) → Lent → List ℕ
+k8-oam block-edge oam-edge m =
+    busOam (k8 block-edge .engine) (heldBeside oam-edge) (lengthsOf (m .cartridge) (m .wram) (m .vram) (m .oam)) (m .cartridge) (m .wram) (m .oam)
+
+-- the first byte, of 1230h, at FE30h, or the second, of 1231h, at FE31h; and no other place of OAM is touched
+abbrev pub first-lands : Lent → List ℕ
+first-lands m = set (m .oam) (0xFE30 - 0xFE00) (getD (m .cartridge) 0x1230 0)
+
+abbrev pub second-lands : Lent → List ℕ
+second-lands m = set (m .oam) (0xFE31 - 0xFE00) (getD (m .cartridge) 0x1231 0)
+
+pub record K8 : Type 0 where
+  pub block-edge : k8 100 .engine .«vram_dma» .block .«start_edge» ≡ 100
+  pub contended : arbitrationCallOf (k8-ready 100 .engine) besideOam .answer ≡ arbitration.Contended
+  pub moved : after false (k8 100) (bus-call (heldBeside 98) lengths ∷ []) .pairs ≡ upward 2 0x1230 0x8000
+  pub at-98 : (m : Lent) → k8-oam 100 98 m ≡ second-lands m
+  pub at-92 : (m : Lent) → k8-oam 100 92 m ≡ second-lands m
+  pub at-96 : (m : Lent) → k8-oam 100 96 m ≡ first-lands m
+  pub at-94 : (m : Lent) → k8-oam 100 94 m ≡ first-lands m
+  pub both-0 : (m : Lent) → k8-oam 0 0 m ≡ second-lands m
+  -- not among the paper's edges: without wrap the distance of these would be 0 too, and the second would land
+  pub wraps : (m : Lent) → k8-oam 0 4 m ≡ first-lands m
 
 -- "compat: FF55=00 leaves FF"
 pub record K10 : Type 0 where
-  pub reads : ff55 (after true (start true) (to 0xFF55 0x00 tt ∷ [])) ≡ 0xFF
+  pub reads : ff55-is 0xFF (after true (start true) (to 0xFF55 0x00 tt ∷ []))
 
 pub record Cases : Type 0 where
   pub case1 : (mode : ℕ) → mode < 4 → K1 mode
@@ -216,5 +261,5 @@ pub record Cases : Type 0 where
   pub case5 : K5
   pub case6 : K6
   pub case7 : K7
-  pub case8 : (p q : BytePair) (b c : ℕ) (oam : List ℕ) → K8 p q b c oam
+  pub case8 : K8
   pub case10 : K10
