@@ -1,8 +1,8 @@
 // K9: blocks are granted and never moved, until the count is full.
+use crate::calls;
+use crate::say;
 use answers::ClaimAnswer;
 use console::Cgb;
-use observe::calls;
-use observe::say;
 
 // Where the run stands; from the first refusal on it does not go on.
 struct Course {
@@ -99,6 +99,8 @@ pub fn k9() {
     say::case(b"K9");
     let c = first_refusal(begin(calls::set(engine::power_on(false), 0xFF55, 0xFF)));
     tell(c);
-    calls::tally(b"tally: ", c.state);
-    calls::read(b"FF55: ", c.state, 0xFF55);
+    say::label(b"tally: ");
+    calls::tally(c.state);
+    say::label(b"FF55: ");
+    calls::read(c.state, 0xFF55);
 }

@@ -1,19 +1,38 @@
-// Runs document 01's cases and declined inputs through the public calls, a line for each observation.
-// What the lines must say stands in the file stdout, written from the paper's numbers and rules. The
-// cases with a bus call are in `bus_cases`.
+// Runs document 01's cases and declined inputs through the public calls, a line for each observation. What the lines must
+// say stands in the file stdout, written from the paper's numbers and rules.
 mod blackout;
+mod calls;
+mod cut;
 mod declined;
+mod deposit;
+mod general;
 mod grants;
+mod hblank;
+mod held;
+mod lengths;
+mod lent;
 mod map;
 mod pairs;
+mod say;
+
+// K1 to K8 and the last place of a deposit, but for K3, which is with the map's cases.
+fn moving() {
+    general::k1();
+    hblank::k2();
+    pairs::k4();
+    pairs::k5();
+    cut::k6();
+    blackout::k7(4);
+    blackout::k7(3);
+    deposit::k8();
+    deposit::last_place();
+}
 
 fn main() {
     map::map();
-    pairs::k4();
-    pairs::k5();
-    blackout::k7(4);
-    blackout::k7(3);
+    moving();
     grants::k9();
     declined::modes();
     declined::switches();
+    lengths::each();
 }

@@ -1,7 +1,7 @@
 // The register and WRAM map: K3, K10, reads and writes, their declined inputs, and refusal 7.
+use crate::calls;
+use crate::say;
 use console::Cgb;
-use observe::calls;
-use observe::say;
 use registers::WriteInput;
 
 // A write with the LCD on, of which only the state is wanted.
@@ -14,67 +14,80 @@ fn set(state: Cgb, wram: &mut [u8; 32768], address: u16, value: u8) -> Cgb {
 }
 
 // A write with the LCD on, with a line for its answer; of any slice.
-fn wrote(label: &[u8], state: Cgb, wram: &mut [u8], address: u16, value: u8) -> Cgb {
+fn wrote(state: Cgb, wram: &mut [u8], address: u16, value: u8) -> Cgb {
     let input = WriteInput {
         value: value,
         lcd_on: true,
     };
     let w = bus_calls::access::write(state, wram, address, input);
     let answer = w.answer;
-    say::done(label, answer);
+    say::done(answer);
     w.state
 }
 
-fn written(label: &[u8], state: Cgb, wram: &mut [u8; 32768], address: u16, value: u8) -> Cgb {
-    wrote(label, state, wram, address, value)
+fn written(state: Cgb, wram: &mut [u8; 32768], address: u16, value: u8) -> Cgb {
+    wrote(state, wram, address, value)
 }
 
-fn read_of(label: &[u8], state: Cgb, wram: &[u8], address: u16) {
-    say::byte(label, bus_calls::access::read(state, wram, address));
+fn read_of(state: Cgb, wram: &[u8], address: u16) {
+    say::byte(bus_calls::access::read(state, wram, address));
 }
 
-fn read(label: &[u8], state: Cgb, wram: &[u8; 32768], address: u16) {
-    read_of(label, state, wram, address);
+fn read(state: Cgb, wram: &[u8; 32768], address: u16) {
+    read_of(state, wram, address);
 }
 
 // K3: 83 then 00 in front of any fall.
 fn k3() {
     let armed = calls::set(engine::power_on(false), 0xFF55, 0x83);
-    calls::read(b"K3 armed with 83: ", armed, 0xFF55);
+    say::label(b"K3 armed with 83: ");
+    calls::read(armed, 0xFF55);
     let cancelled = calls::set(armed, 0xFF55, 0x00);
-    calls::read(b"K3 then 00: ", cancelled, 0xFF55);
+    say::label(b"K3 then 00: ");
+    calls::read(cancelled, 0xFF55);
 }
 
 fn locked(state: Cgb) {
-    calls::read(b"K10 FF55: ", state, 0xFF55);
-    calls::read(b"K10 FF4C: ", state, 0xFF4C);
-    calls::read(b"K10 FF4D: ", state, 0xFF4D);
-    calls::read(b"K10 FF70: ", state, 0xFF70);
-    calls::read(b"K10 FF74: ", state, 0xFF74);
+    say::label(b"K10 FF55: ");
+    calls::read(state, 0xFF55);
+    say::label(b"K10 FF4C: ");
+    calls::read(state, 0xFF4C);
+    say::label(b"K10 FF4D: ");
+    calls::read(state, 0xFF4D);
+    say::label(b"K10 FF70: ");
+    calls::read(state, 0xFF70);
+    say::label(b"K10 FF74: ");
+    calls::read(state, 0xFF74);
 }
 
 // K10: compat locks FF55.
 fn k10() {
     let mut wram = [0u8; 32768];
     let s = engine::power_on(true);
-    let after = written(b"K10 FF55=00: ", s, &mut wram, 0xFF55, 0x00);
+    say::label(b"K10 FF55=00: ");
+    let after = written(s, &mut wram, 0xFF55, 0x00);
     locked(after);
 }
 
 // Registers at power-on and after a write.
 fn registers_read(state: Cgb) {
-    calls::read(b"FF4D: ", state, 0xFF4D);
+    say::label(b"FF4D: ");
+    calls::read(state, 0xFF4D);
     let armed = calls::set(state, 0xFF4D, 0x01);
-    calls::read(b"FF4D=01: ", armed, 0xFF4D);
-    calls::read(b"FF70: ", state, 0xFF70);
-    calls::read(b"FF4F: ", state, 0xFF4F);
+    say::label(b"FF4D=01: ");
+    calls::read(armed, 0xFF4D);
+    say::label(b"FF70: ");
+    calls::read(state, 0xFF70);
+    say::label(b"FF4F: ");
+    calls::read(state, 0xFF4F);
 }
 
 // Work RAM repeats from E000 up.
 fn echo(state: Cgb) {
     let mut wram = [0u8; 32768];
     let low = set(state, &mut wram, 0xC000, 0x12);
-    read(b"C000=12, E000: ", low, &wram, 0xE000);
+    say::label(b"C000=12, E000: ");
+    read(low, &wram, 0xE000);
 }
 
 // D000 up is in the bank of FF70, where 0 means 1.
@@ -82,55 +95,74 @@ fn banks(state: Cgb) {
     let mut wram = [0u8; 32768];
     let bank2 = set(state, &mut wram, 0xFF70, 0x02);
     let held = set(bank2, &mut wram, 0xD000, 0x34);
-    read(b"bank 2, D000=34, F000: ", held, &wram, 0xF000);
+    say::label(b"bank 2, D000=34, F000: ");
+    read(held, &wram, 0xF000);
     let bank0 = set(held, &mut wram, 0xFF70, 0x00);
-    read(b"bank 0, D000: ", bank0, &wram, 0xD000);
+    say::label(b"bank 0, D000: ");
+    read(bank0, &wram, 0xD000);
 }
 
 // The extra OAM rows repeat each eight bytes.
 fn extra_rows(state: Cgb) {
     let row = calls::set(state, 0xFEA1, 0x56);
-    calls::read(b"FEA1=56, FEB9: ", row, 0xFEB9);
+    say::label(b"FEA1=56, FEB9: ");
+    calls::read(row, 0xFEB9);
 }
 
 fn pointers(state: Cgb) {
     let source = calls::set(calls::set(state, 0xFF51, 0x12), 0xFF52, 0x34);
     let both = calls::set(calls::set(source, 0xFF53, 0xFF), 0xFF54, 0xFF);
-    calls::tally(b"1234 to FFFF: ", both);
-    calls::tally(b"and FF55=01: ", calls::set(both, 0xFF55, 0x01));
+    say::label(b"1234 to FFFF: ");
+    calls::tally(both);
+    say::label(b"and FF55=01: ");
+    calls::tally(calls::set(both, 0xFF55, 0x01));
 }
 
 // 2 comes before 4.
 fn lengths_read(state: Cgb) {
     let short = [0u8; 32767];
     let long = [0u8; 32769];
-    read_of(b"read FF55, one short: ", state, &short, 0xFF55);
-    read_of(b"read FF55, one long: ", state, &long, 0xFF55);
-    read_of(b"read 0000, one short: ", state, &short, 0x0000);
-    read_of(b"read 0000, one long: ", state, &long, 0x0000);
+    say::label(b"read FF55, one short: ");
+    read_of(state, &short, 0xFF55);
+    say::label(b"read FF55, one long: ");
+    read_of(state, &long, 0xFF55);
+    say::label(b"read 0000, one short: ");
+    read_of(state, &short, 0x0000);
+    say::label(b"read 0000, one long: ");
+    read_of(state, &long, 0x0000);
 }
 
 fn lengths_written(state: Cgb) {
     let mut short = [0u8; 32767];
     let mut long = [0u8; 32769];
-    let a = wrote(b"write FF55, one short: ", state, &mut short, 0xFF55, 0x00);
-    calls::tally(b"then: ", a);
-    let b = wrote(b"write C000, one long: ", state, &mut long, 0xC000, 0x77);
-    calls::tally(b"then: ", b);
+    say::label(b"write FF55, one short: ");
+    let a = wrote(state, &mut short, 0xFF55, 0x00);
+    say::label(b"then: ");
+    calls::tally(a);
+    say::label(b"write C000, one long: ");
+    let b = wrote(state, &mut long, 0xC000, 0x77);
+    say::label(b"then: ");
+    calls::tally(b);
     say::hex(b"and C000 holds: ", memory::byte_at(&long, 0));
 }
 
 fn addresses(state: Cgb) {
     let mut wram = [0u8; 32768];
-    read(b"read FE9F: ", state, &wram, 0xFE9F);
-    read(b"read FEA0: ", state, &wram, 0xFEA0);
-    let a = written(b"write FE9F: ", state, &mut wram, 0xFE9F, 0x01);
-    let _b = written(b"write FEA0: ", a, &mut wram, 0xFEA0, 0x01);
+    say::label(b"read FE9F: ");
+    read(state, &wram, 0xFE9F);
+    say::label(b"read FEA0: ");
+    read(state, &wram, 0xFEA0);
+    say::label(b"write FE9F: ");
+    let a = written(state, &mut wram, 0xFE9F, 0x01);
+    say::label(b"write FEA0: ");
+    let _b = written(a, &mut wram, 0xFEA0, 0x01);
 }
 
 fn color(state: Cgb, wram: &mut [u8; 32768], address: u16) {
-    read(b"read FF68 up: ", state, wram, address);
-    let _after = written(b"write FF68 up: ", state, wram, address, 0x01);
+    say::label(b"read FF68 up: ");
+    read(state, wram, address);
+    say::label(b"write FF68 up: ");
+    let _after = written(state, wram, address, 0x01);
 }
 
 fn colors(state: Cgb) {
@@ -169,16 +201,26 @@ fn with_bank(mut state: Cgb, bank: u8) -> Cgb {
 
 // Five of refusal 7's tests, in the paper's order, each with its good neighbour. (`seven_first` has the sixth.)
 fn states(state: Cgb) {
-    calls::tally(b"quota 2: ", with_quota(state, 2));
-    calls::tally(b"quota 3: ", with_quota(state, 3));
-    calls::tally(b"block 16: ", with_block(state, 16));
-    calls::tally(b"block 17: ", with_block(state, 17));
-    calls::tally(b"left 2048: ", with_left(state, 2048));
-    calls::tally(b"left 2049: ", with_left(state, 2049));
-    calls::tally(b"FF70 7: ", with_svbk(state, 7));
-    calls::tally(b"FF70 8: ", with_svbk(state, 8));
-    calls::tally(b"bank 1: ", with_bank(state, 1));
-    calls::tally(b"bank 2: ", with_bank(state, 2));
+    say::label(b"quota 2: ");
+    calls::tally(with_quota(state, 2));
+    say::label(b"quota 3: ");
+    calls::tally(with_quota(state, 3));
+    say::label(b"block 16: ");
+    calls::tally(with_block(state, 16));
+    say::label(b"block 17: ");
+    calls::tally(with_block(state, 17));
+    say::label(b"left 2048: ");
+    calls::tally(with_left(state, 2048));
+    say::label(b"left 2049: ");
+    calls::tally(with_left(state, 2049));
+    say::label(b"FF70 7: ");
+    calls::tally(with_svbk(state, 7));
+    say::label(b"FF70 8: ");
+    calls::tally(with_svbk(state, 8));
+    say::label(b"bank 1: ");
+    calls::tally(with_bank(state, 1));
+    say::label(b"bank 2: ");
+    calls::tally(with_bank(state, 2));
 }
 
 // Left 0 in a mode other than Idle, with a slice of the wrong length at an address of no map.
@@ -186,10 +228,13 @@ fn seven_first() {
     let mut wram = [0u8; 32768];
     let short = [0u8; 32767];
     let mut armed = set(engine::power_on(false), &mut wram, 0xFF55, 0x80);
-    read(b"armed, left 16: ", armed, &wram, 0xFF55);
+    say::label(b"armed, left 16: ");
+    read(armed, &wram, 0xFF55);
     armed.vram_dma.cursor.remaining = 0;
-    read_of(b"armed, left 0: ", armed, &short, 0x0000);
-    let _w = written(b"and written: ", armed, &mut wram, 0xFF55, 0x00);
+    say::label(b"armed, left 0: ");
+    read_of(armed, &short, 0x0000);
+    say::label(b"and written: ");
+    let _w = written(armed, &mut wram, 0xFF55, 0x00);
 }
 
 fn declined(state: Cgb) {

@@ -1,9 +1,9 @@
 // K4 and K5: General transfers by rounds of a fall and next pairs.
+use crate::calls;
+use crate::say;
 use answers::PairAnswer;
 use console::Cgb;
 use countdown::step::saturating_inc;
-use observe::calls;
-use observe::say;
 use transfer::pair::BytePair;
 
 // A transfer under way, with what has come of it.
@@ -79,9 +79,12 @@ fn general(high: u8, low: u8, length: u8) -> Run {
 
 // Nothing is left: another fall brings no pair.
 fn ended(state: Cgb) {
-    calls::tally(b"tally: ", state);
-    calls::read(b"FF55: ", state, 0xFF55);
-    let _after = calls::next(b"a fall, next pair: ", calls::fallen(state, 3));
+    say::label(b"tally: ");
+    calls::tally(state);
+    say::label(b"FF55: ");
+    calls::read(state, 0xFF55);
+    say::label(b"a fall, next pair: ");
+    let _after = calls::next(calls::fallen(state, 3));
 }
 
 pub fn k4() {

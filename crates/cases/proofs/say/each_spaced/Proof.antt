@@ -1,8 +1,8 @@
 -- `each_spaced` ends. Assumes nothing.
 use Prim.Native.Nat.{_≤_, _-_}
 use borrow.Author.Needs.{needs}
-use Rattle.observe.proofs.say.each_spaced.Statement.{statement}
-use Rattle.observe.proofs.say.each_spaced.Tie as tie
+use Rattle.cases.proofs.say.each_spaced.Statement.{statement}
+use Rattle.cases.proofs.say.each_spaced.Tie as tie
 
 abbrev Inv-loop : tie.InvT-loop
 Inv-loop bytes count i₀ i = i ≤ count

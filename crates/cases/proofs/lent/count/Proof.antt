@@ -3,8 +3,8 @@ use Prim.Native.Nat.{_≤_, _-_}
 use mathlib.Core.Path.{_≡_}
 use borrow.Author.Needs.{needs}
 use lib.ListN.{length}
-use Rattle.bus_cases.proofs.lent.count.Statement.{statement}
-use Rattle.bus_cases.proofs.lent.count.Tie as tie
+use Rattle.cases.proofs.lent.count.Statement.{statement}
+use Rattle.cases.proofs.lent.count.Tie as tie
 
 abbrev Inv-loop : tie.InvT-loop
 Inv-loop memory n₀ i₀ i-end n i = (i ≤ i-end) × (i-end ≡ length memory)

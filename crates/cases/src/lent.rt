@@ -1,10 +1,10 @@
 // Memory that is lent to bus calls: a cartridge whose bytes tell their addresses, VRAM and OAM of zeros.
-use observe::say;
+use crate::say;
 
-// Where the cases read, each byte is the low byte of its address and 40h, so that none of theirs is 0.
+// Each byte is the low byte of its address and 40h, so that none that the cases read is 0.
 pub fn cartridge() -> [u8; 40960] {
     let mut bytes = [0u8; 40960];
-    for i in 0..256 {
+    for i in 0..40960 {
         bytes[i] = ((i + 0x40) % 256) as u8;
     }
     bytes

@@ -1,12 +1,12 @@
 // Bus calls with a slice one short or one long: 2, and nothing changes. The cartridge holds 40h, so that
 // a byte moved all the same would show.
+use crate::calls;
 use crate::lent;
+use crate::say;
 use bus::commit::BusInput;
 use console::Cgb;
-use observe::calls;
-use observe::say;
 
-fn call(label: &[u8], state: Cgb, cartridge: &[u8], wram: &[u8], vram: &mut [u8], oam: &mut [u8]) {
+fn call(state: Cgb, cartridge: &[u8], wram: &[u8], vram: &mut [u8], oam: &mut [u8]) {
     let input = BusInput {
         hold: true,
         suspended: false,
@@ -14,7 +14,7 @@ fn call(label: &[u8], state: Cgb, cartridge: &[u8], wram: &[u8], vram: &mut [u8]
     };
     let b = bus_calls::bus_call::vram_dma_commit_bytes(state, input, cartridge, wram, vram, oam);
     let answer = b.answer;
-    say::bussed(label, answer);
+    say::bussed(answer);
     say::yes(b"state as before: ", calls::same(state, b.state));
     lent::stored_of(vram, oam);
 }
@@ -25,22 +25,10 @@ fn of_cartridge(state: Cgb) {
     let wram = [0u8; 32768];
     let mut vram = [0u8; 16384];
     let mut oam = [0u8; 160];
-    call(
-        b"cartridge one short: ",
-        state,
-        &short,
-        &wram,
-        &mut vram,
-        &mut oam,
-    );
-    call(
-        b"cartridge one long: ",
-        state,
-        &long,
-        &wram,
-        &mut vram,
-        &mut oam,
-    );
+    say::label(b"cartridge one short: ");
+    call(state, &short, &wram, &mut vram, &mut oam);
+    say::label(b"cartridge one long: ");
+    call(state, &long, &wram, &mut vram, &mut oam);
 }
 
 fn of_wram(state: Cgb) {
@@ -49,22 +37,10 @@ fn of_wram(state: Cgb) {
     let cartridge = [0x40u8; 40960];
     let mut vram = [0u8; 16384];
     let mut oam = [0u8; 160];
-    call(
-        b"WRAM one short: ",
-        state,
-        &cartridge,
-        &short,
-        &mut vram,
-        &mut oam,
-    );
-    call(
-        b"WRAM one long: ",
-        state,
-        &cartridge,
-        &long,
-        &mut vram,
-        &mut oam,
-    );
+    say::label(b"WRAM one short: ");
+    call(state, &cartridge, &short, &mut vram, &mut oam);
+    say::label(b"WRAM one long: ");
+    call(state, &cartridge, &long, &mut vram, &mut oam);
 }
 
 fn of_vram(state: Cgb) {
@@ -73,22 +49,10 @@ fn of_vram(state: Cgb) {
     let cartridge = [0x40u8; 40960];
     let wram = [0u8; 32768];
     let mut oam = [0u8; 160];
-    call(
-        b"VRAM one short: ",
-        state,
-        &cartridge,
-        &wram,
-        &mut short,
-        &mut oam,
-    );
-    call(
-        b"VRAM one long: ",
-        state,
-        &cartridge,
-        &wram,
-        &mut long,
-        &mut oam,
-    );
+    say::label(b"VRAM one short: ");
+    call(state, &cartridge, &wram, &mut short, &mut oam);
+    say::label(b"VRAM one long: ");
+    call(state, &cartridge, &wram, &mut long, &mut oam);
 }
 
 fn of_oam(state: Cgb) {
@@ -97,22 +61,10 @@ fn of_oam(state: Cgb) {
     let cartridge = [0x40u8; 40960];
     let wram = [0u8; 32768];
     let mut vram = [0u8; 16384];
-    call(
-        b"OAM one short: ",
-        state,
-        &cartridge,
-        &wram,
-        &mut vram,
-        &mut short,
-    );
-    call(
-        b"OAM one long: ",
-        state,
-        &cartridge,
-        &wram,
-        &mut vram,
-        &mut long,
-    );
+    say::label(b"OAM one short: ");
+    call(state, &cartridge, &wram, &mut vram, &mut short);
+    say::label(b"OAM one long: ");
+    call(state, &cartridge, &wram, &mut vram, &mut long);
 }
 
 fn right(state: Cgb) {
@@ -120,21 +72,16 @@ fn right(state: Cgb) {
     let wram = [0u8; 32768];
     let mut vram = [0u8; 16384];
     let mut oam = [0u8; 160];
-    call(
-        b"each of its length, pairs: ",
-        state,
-        &cartridge,
-        &wram,
-        &mut vram,
-        &mut oam,
-    );
+    say::label(b"each of its length, pairs: ");
+    call(state, &cartridge, &wram, &mut vram, &mut oam);
 }
 
 // With two pairs to move and a deposit due, as the last call shows.
 pub fn each() {
     say::case(b"lengths of a bus call's slices");
     let general = calls::set(engine::power_on(false), 0xFF55, 0x00);
-    let state = calls::arbitrate(b"arbitration: ", calls::fallen(general, 3));
+    say::label(b"arbitration: ");
+    let state = calls::arbitrate(calls::fallen(general, 3));
     of_cartridge(state);
     of_wram(state);
     of_vram(state);

@@ -1,10 +1,10 @@
-// A held bus call, with lines for what it moved.
+// A held bus call, with lines for what it moved; the first stands behind a label.
 use crate::lent;
+use crate::say;
 use answers::BusAnswer;
 use answers::Bussed;
 use bus::commit::BusInput;
 use console::Cgb;
-use observe::say;
 use transfer::pair::BytePair;
 
 fn count(answer: BusAnswer) -> u8 {
@@ -21,11 +21,11 @@ fn told(there: bool, pair: BytePair, byte: u8) {
 }
 
 // The pairs in order, as many as the answer says.
-fn tell(label: &[u8], b: Bussed) -> Cgb {
+fn tell(b: Bussed) -> Cgb {
     let answer = b.answer;
     let pairs = b.pairs;
     let bytes = b.bytes;
-    say::bussed(label, answer);
+    say::bussed(answer);
     let n = count(answer);
     told(n > 0, pairs[0], bytes[0]);
     told(n > 1, pairs[1], bytes[1]);
@@ -34,7 +34,6 @@ fn tell(label: &[u8], b: Bussed) -> Cgb {
 
 // Beside an OAM DMA that started at this edge.
 pub fn beside(
-    label: &[u8],
     state: Cgb,
     oam_start_edge: u64,
     cartridge: &[u8; 40960],
@@ -48,13 +47,13 @@ pub fn beside(
         oam_start_edge: oam_start_edge,
     };
     let b = bus_calls::bus_call::vram_dma_commit_bytes(state, input, cartridge, &wram, vram, oam);
-    tell(label, b)
+    tell(b)
 }
 
 // In memory of its own.
-pub fn alone(label: &[u8], state: Cgb) -> Cgb {
+pub fn alone(state: Cgb) -> Cgb {
     let cartridge = lent::cartridge();
     let mut vram = [0u8; 16384];
     let mut oam = [0u8; 160];
-    beside(label, state, 0, &cartridge, &mut vram, &mut oam)
+    beside(state, 0, &cartridge, &mut vram, &mut oam)
 }

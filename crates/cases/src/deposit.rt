@@ -1,53 +1,70 @@
 // K8: which byte of a contended bus call lands in OAM, and the last place that takes one.
+use crate::calls;
 use crate::general;
 use crate::held;
 use crate::lent;
+use crate::say;
 use console::Cgb;
-use observe::calls;
-use observe::say;
+
+// FF55=80 with source 1230h.
+fn armed() -> Cgb {
+    let high = calls::set(engine::power_on(false), 0xFF51, 0x12);
+    calls::set(calls::set(high, 0xFF52, 0x30), 0xFF55, 0x80)
+}
 
 // A block whose commit, K2's third fall, came at this edge.
 fn committed(block_edge: u64) -> Cgb {
-    let armed = calls::set(engine::power_on(false), 0xFF55, 0x80);
-    let second = calls::fallen(calls::fallen(armed, 3), 0);
+    let second = calls::fallen(calls::fallen(armed(), 3), 0);
     calls::fallen_at(second, 0, block_edge)
 }
 
 // Its set-up cell taken, two pairs to move, and OAM DMA beside it.
 fn contended(block_edge: u64) -> Cgb {
     let fourth = calls::fallen(committed(block_edge), 0);
-    let cell = held::alone(b"bus, pairs: ", fourth);
-    calls::arbitrate(b"arbitration: ", calls::fallen(cell, 0))
+    say::label(b"bus, pairs: ");
+    let cell = held::alone(fourth);
+    say::label(b"arbitration: ");
+    calls::arbitrate(calls::fallen(cell, 0))
 }
 
-// The first byte would land at FE00, the second at FE01.
-fn first_places(oam: &[u8; 160]) {
-    say::row(b"OAM from FE00:", oam, 2);
+// The first byte would land at FE30, the second at FE31.
+fn places(oam: &[u8; 160]) {
+    say::hex(b"OAM at FE30: ", oam[0x30]);
+    say::hex(b"OAM at FE31: ", oam[0x31]);
 }
 
-fn landed(label: &[u8], state: Cgb, oam_edge: u64) {
+fn landed(state: Cgb, oam_edge: u64) {
     let cartridge = lent::cartridge();
     let mut vram = [0u8; 16384];
     let mut oam = [0u8; 160];
-    let _after = held::beside(label, state, oam_edge, &cartridge, &mut vram, &mut oam);
-    first_places(&oam);
+    let _after = held::beside(state, oam_edge, &cartridge, &mut vram, &mut oam);
+    places(&oam);
     lent::stored(&vram, &oam);
 }
 
 // Both 0: the second, as phase 3; OAM edge 4 is phase 1 by the wrap, and gives the first.
 fn wrapped(state: Cgb) {
-    landed(b"both edges 0, bus, pairs: ", state, 0);
-    landed(b"OAM edge 4, bus, pairs: ", state, 4);
+    say::label(b"both edges 0, bus, pairs: ");
+    landed(state, 0);
+    say::label(b"OAM edge 4, bus, pairs: ");
+    landed(state, 4);
+}
+
+fn at_100(state: Cgb) {
+    say::label(b"OAM edge 98, bus, pairs: ");
+    landed(state, 98);
+    say::label(b"OAM edge 92, bus, pairs: ");
+    landed(state, 92);
+    say::label(b"OAM edge 96, bus, pairs: ");
+    landed(state, 96);
+    say::label(b"OAM edge 94, bus, pairs: ");
+    landed(state, 94);
 }
 
 // Block edge 100: OAM edges 98 and 92 the second, 96 and 94 the first.
 pub fn k8() {
     say::case(b"K8");
-    let state = contended(100);
-    landed(b"OAM edge 98, bus, pairs: ", state, 98);
-    landed(b"OAM edge 92, bus, pairs: ", state, 92);
-    landed(b"OAM edge 96, bus, pairs: ", state, 96);
-    landed(b"OAM edge 94, bus, pairs: ", state, 94);
+    at_100(contended(100));
     wrapped(contended(0));
 }
 
@@ -58,8 +75,10 @@ fn contended_round(
     vram: &mut [u8; 16384],
     oam: &mut [u8; 160],
 ) -> Cgb {
-    let shared = calls::arbitrate(b"fall, arbitration: ", calls::fallen(state, 3));
-    let after = held::beside(b"bus, pairs: ", shared, oam_edge, cartridge, vram, oam);
+    say::label(b"fall, arbitration: ");
+    let shared = calls::arbitrate(calls::fallen(state, 3));
+    say::label(b"bus, pairs: ");
+    let after = held::beside(shared, oam_edge, cartridge, vram, oam);
     say::hex(b"OAM at FE9F: ", oam[159]);
     after
 }

@@ -1,27 +1,38 @@
 // K2: a block that the screen starts, with FF55 after each fall.
+use crate::calls;
 use crate::held;
+use crate::say;
 use console::Cgb;
-use observe::calls;
-use observe::say;
 
-fn fall(label: &[u8], state: Cgb, mode: u8) -> Cgb {
+fn fall(state: Cgb, mode: u8) -> Cgb {
     let after = calls::fallen(state, mode);
-    calls::read(label, after, 0xFF55);
+    calls::read(after, 0xFF55);
     after
+}
+
+fn bus(state: Cgb) -> Cgb {
+    say::label(b"bus, pairs: ");
+    held::alone(state)
 }
 
 // The third fall commits.
 fn three_falls(armed: Cgb) -> Cgb {
-    calls::read(b"armed, FF55: ", armed, 0xFF55);
-    let first = fall(b"fall in mode 3: ", armed, 3);
-    let second = fall(b"second fall, in mode 0: ", first, 0);
-    fall(b"third: ", second, 0)
+    say::label(b"armed, FF55: ");
+    calls::read(armed, 0xFF55);
+    say::label(b"fall in mode 3: ");
+    let first = fall(armed, 3);
+    say::label(b"second fall, in mode 0: ");
+    let second = fall(first, 0);
+    say::label(b"third: ");
+    fall(second, 0)
 }
 
 // The bus call after the fourth fall takes the set-up cell, that after the fifth two pairs.
 fn two_falls(committed: Cgb) -> Cgb {
-    let fourth = held::alone(b"bus, pairs: ", fall(b"fourth: ", committed, 0));
-    held::alone(b"bus, pairs: ", fall(b"fifth: ", fourth, 0))
+    say::label(b"fourth: ");
+    let cell = bus(fall(committed, 0));
+    say::label(b"fifth: ");
+    bus(fall(cell, 0))
 }
 
 // Armed with this value of FF55, five falls and two bus calls.

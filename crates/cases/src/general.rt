@@ -1,9 +1,9 @@
 // K1: a General transfer by rounds of a fall and a held bus call.
+use crate::calls;
 use crate::held;
 use crate::lent;
+use crate::say;
 use console::Cgb;
-use observe::calls;
-use observe::say;
 
 pub fn round(
     state: Cgb,
@@ -11,14 +11,8 @@ pub fn round(
     vram: &mut [u8; 16384],
     oam: &mut [u8; 160],
 ) -> Cgb {
-    held::beside(
-        b"fall, bus, pairs: ",
-        calls::fallen(state, 3),
-        0,
-        cartridge,
-        vram,
-        oam,
-    )
+    say::label(b"fall, bus, pairs: ");
+    held::beside(calls::fallen(state, 3), 0, cartridge, vram, oam)
 }
 
 pub fn four_rounds(
@@ -35,7 +29,8 @@ pub fn four_rounds(
 
 // FF, and the row of VRAM that was moved, with the byte behind it.
 fn end(state: Cgb, vram: &[u8; 16384]) {
-    calls::read(b"FF55: ", state, 0xFF55);
+    say::label(b"FF55: ");
+    calls::read(state, 0xFF55);
     say::row(b"VRAM from 8000:", vram, 17);
 }
 

@@ -3,14 +3,14 @@ use Prim.Native.Nat.{_≤_, _-_}
 use mathlib.Core.Path.{_≡_}
 use borrow.Author.Needs.{needs}
 use lib.ListN.{length}
-use Rattle.bus_cases.proofs.lent.cartridge.Statement.{statement}
-use Rattle.bus_cases.proofs.lent.cartridge.Tie as tie
+use Rattle.cases.proofs.lent.cartridge.Statement.{statement}
+use Rattle.cases.proofs.lent.cartridge.Tie as tie
 
 abbrev Inv-loop : tie.InvT-loop
-Inv-loop bytes₀ i₀ bytes i = (i ≤ 256) × (length bytes ≡ 40960)
+Inv-loop bytes₀ i₀ bytes i = (i ≤ 40960) × (length bytes ≡ 40960)
 
 abbrev μ-loop : tie.MeasureT-loop
-μ-loop bytes₀ i₀ bytes i = 256 - i
+μ-loop bytes₀ i₀ bytes i = 40960 - i
 
 loop-holds : tie.Need-loop-holds Inv-loop μ-loop
 loop-holds c = search needs

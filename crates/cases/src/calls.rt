@@ -1,4 +1,4 @@
-// The public calls with the inputs that the cases leave alone, and lines for what they answer.
+// The public calls with the inputs that the cases leave alone, and what they answer behind a label.
 use crate::say;
 use answers::Fell;
 use answers::Handed;
@@ -36,13 +36,13 @@ pub fn set_in_the_dark(state: Cgb, address: u16, value: u8) -> Cgb {
     )
 }
 
-pub fn read(label: &[u8], state: Cgb, address: u16) {
+pub fn read(state: Cgb, address: u16) {
     let wram = [0u8; 32768];
-    say::byte(label, bus_calls::access::read(state, &wram, address));
+    say::byte(bus_calls::access::read(state, &wram, address));
 }
 
-pub fn tally(label: &[u8], state: Cgb) {
-    say::tally(label, queries::tally(state));
+pub fn tally(state: Cgb) {
+    say::tally(queries::tally(state));
 }
 
 // A fall, running or halted, with nothing else going on.
@@ -79,7 +79,7 @@ pub fn fallen_at(state: Cgb, mode: u8, master_edge: u64) -> Cgb {
 }
 
 // Arbitration of a held bus while OAM DMA drives a byte.
-pub fn arbitrate(label: &[u8], state: Cgb) -> Cgb {
+pub fn arbitrate(state: Cgb) -> Cgb {
     let input = ArbitrationInput {
         hold: true,
         suspended: false,
@@ -87,26 +87,26 @@ pub fn arbitrate(label: &[u8], state: Cgb) -> Cgb {
     };
     let arbitrated = bus_calls::shared_bus::vram_dma_arbitrate_oam(state, input);
     let answer = arbitrated.answer;
-    say::arbitrated(label, answer);
+    say::arbitrated(answer);
     arbitrated.state
 }
 
-fn handed(label: &[u8], h: Handed) -> Cgb {
+fn handed(h: Handed) -> Cgb {
     let answer = h.answer;
-    say::pair(label, answer);
+    say::pair(answer);
     h.state
 }
 
-pub fn next(label: &[u8], state: Cgb) -> Cgb {
-    handed(label, engine::pair::next_byte(state))
+pub fn next(state: Cgb) -> Cgb {
+    handed(engine::pair::next_byte(state))
 }
 
-pub fn drain_escape(label: &[u8], state: Cgb) -> Cgb {
-    handed(label, engine::pair::vram_dma_drain_escape(state))
+pub fn drain_escape(state: Cgb) -> Cgb {
+    handed(engine::pair::vram_dma_drain_escape(state))
 }
 
 // An attempt with no interrupt ready.
-pub fn switch(label: &[u8], state: Cgb, dot_phase: u8, hold: bool) -> Cgb {
+pub fn switch(state: Cgb, dot_phase: u8, hold: bool) -> Cgb {
     let input = SwitchInput {
         hold: hold,
         dot_phase: dot_phase,
@@ -115,7 +115,7 @@ pub fn switch(label: &[u8], state: Cgb, dot_phase: u8, hold: bool) -> Cgb {
     };
     let switched = engine::speed::attempt_speed_switch(state, input);
     let answer = switched.answer;
-    say::switched(label, answer);
+    say::switched(answer);
     switched.state
 }
 
