@@ -1,11 +1,15 @@
 // What the measurements run (bench/): many calls on one state that is read once from its bytes and written back once, so
 // that the calls themselves are timed and not the codec.
+ghost use Rattle.bench.specs.Falls.{fallInputOf, held, Held, Benched};
+ghost use mathlib.Core.Path.{_≡_};
 use bus::commit::BusInput;
 use console::Cgb;
 use fall_edge::FallInput;
 
 // A step's byte: mode in bits 0 and 1, halted, IRQ latched, stopped, a bus owned by OAM DMA.
-fn fall_input(step: u8, edge: u64) -> FallInput {
+fn fall_input(step: u8, edge: u64) -> FallInput
+    ensures { λ r. ⌜ r ≡ fallInputOf step edge ⌝ }
+{
     FallInput {
         mode: step % 4,
         halted: step / 4 % 2 == 1,
@@ -16,7 +20,9 @@ fn fall_input(step: u8, edge: u64) -> FallInput {
     }
 }
 
-fn bus_input() -> BusInput {
+fn bus_input() -> BusInput
+    ensures { λ r. ⌜ r ≡ held ⌝ }
+{
     BusInput {
         hold: true,
         suspended: false,
@@ -25,7 +31,10 @@ fn bus_input() -> BusInput {
 }
 
 // A bus call that holds the bus.
-fn bus(state: Cgb, cartridge: &[u8], wram: &[u8], vram: &mut [u8], oam: &mut [u8]) -> Cgb {
+fn bus(state: Cgb, cartridge: &[u8], wram: &[u8], vram: &mut [u8], oam: &mut [u8]) -> Cgb
+    ensures { λ r. ⌜ Held state (now (cartridge .entry)) (now (wram .entry)) (now (vram .entry)) (now (oam .entry))
+        r (now (vram .exit)) (now (oam .exit)) ⌝ }
+{
     let bussed = bus_calls::bus_call::vram_dma_commit_bytes(
         state,
         bus_input(),
@@ -46,7 +55,10 @@ pub extern "C" fn bench_falls(
     wram: &[u8],
     vram: &mut [u8],
     oam: &mut [u8],
-) {
+)
+    ensures { λ _. ⌜ Benched (now (bytes .entry)) (now (steps .entry)) (now (cartridge .entry)) (now (wram .entry))
+        (now (vram .entry)) (now (oam .entry)) (now (bytes .exit)) (now (vram .exit)) (now (oam .exit)) ⌝ }
+{
     let start = codec::decode(*bytes);
     let mut state = start.state;
     let mut i: usize = 0;

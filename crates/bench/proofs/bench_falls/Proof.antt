@@ -1,13 +1,19 @@
--- `bench_falls` stays inside its slices and ends. Assumes nothing.
+-- `bench_falls` meets its contract: after i steps the loop has what the definition has after i. Assumes nothing.
 use borrow.Author.Needs.{needs}
+use borrow.Author.Tests.{eq-eqb, ne-eqb}
+use native.Mathlib.Omega.{arith}
 use Prim.Native.Nat.{_-_, _≤_}
-use mathlib.Core.Path.{_≡_}
+use mathlib.Core.Path.{_≡_, refl}
 use lib.ListN.{length}
+use Rattle.bench.specs.Falls.{afterSteps}
+use Rattle.bench.proofs.Steps.{at-first, without-bus, with-bus, benched}
 use Rattle.bench.proofs.bench_falls.Statement.{statement}
 use Rattle.bench.proofs.bench_falls.Tie as tie
 
 abbrev Inv-loop : tie.InvT-loop
-Inv-loop bytes steps cartridge wram vram₀ oam₀ state₀ i₀ vram oam state i = (length vram ≡ length vram₀) × (length oam ≡ length oam₀) × (i ≤ length steps)
+Inv-loop bytes steps cartridge wram vram₀ oam₀ state₀ i₀ vram oam state i = (length vram ≡ length vram₀) × (length oam ≡ length oam₀) × (i ≤ length steps) ×
+    (record { state = state; vram = vram; oam = oam } ≡
+    afterSteps cartridge wram steps (record { state = state₀; vram = vram₀; oam = oam₀ }) i)
 
 abbrev μ-loop : tie.MeasureT-loop
 μ-loop bytes steps cartridge wram vram₀ oam₀ state₀ i₀ vram oam state i = length steps - i
@@ -16,7 +22,7 @@ decode-requires : tie.Need-decode-requires Inv-loop μ-loop
 decode-requires c κs = search needs
 
 loop-holds : tie.Need-loop-holds Inv-loop μ-loop
-loop-holds c = search needs
+loop-holds c = (refl, refl, omega arith, at-first _ _ _ _)
 
 shared-slice-read-step : tie.Need-shared-slice-read-step Inv-loop μ-loop
 shared-slice-read-step c = search needs
@@ -37,13 +43,25 @@ loop-less : tie.Need-loop-less Inv-loop μ-loop
 loop-less c = search needs
 
 loop-again : tie.Need-loop-again Inv-loop μ-loop
-loop-again c = search needs
+loop-again c =
+    let l = c .before .before .before .before .before .before .before .before .before .before .before .before .before .loop in (
+      search needs,
+      search needs,
+      omega arith,
+      with-bus _ _ _ _ (l .i) (l .state) _ _ _ _ _ _ _ _ (l .inv .3) refl (c .before .before .before .before .before .before .before .before .before .before .fall-input .ensures) (c .before .before .before .before .before .before .before .before .before .vram-dma-fall-edge .ensures) (eq-eqb _ _ (c .before .before .before .before .before .before .before .if1 .taken)) (c .before .before .before .before .bus .ensures),
+    )
 
 loop-less-2 : tie.Need-loop-less-2 Inv-loop μ-loop
 loop-less-2 c = search needs
 
 loop-again-2 : tie.Need-loop-again-2 Inv-loop μ-loop
-loop-again-2 c = search needs
+loop-again-2 c =
+    let l = c .before .before .before .before .before .before .loop in (
+      l .inv .0,
+      l .inv .1,
+      omega arith,
+      without-bus _ _ _ _ (l .i) (l .state) _ _ _ _ _ (l .inv .3) refl (c .before .before .before .fall-input .ensures) (c .before .before .vram-dma-fall-edge .ensures) (ne-eqb _ _ (c .if1 .left)),
+    )
 
 encode-requires : tie.Need-encode-requires Inv-loop μ-loop
 encode-requires c κs = search needs
@@ -55,7 +73,7 @@ same-length-2 : tie.Need-same-length-2 Inv-loop μ-loop
 same-length-2 c = search needs
 
 returns : tie.Need-returns Inv-loop μ-loop
-returns c = search needs
+returns c = let l = c .before .before .loop in benched _ _ _ _ _ _ _ _ _ _ (l .state) (l .i) (c .before .before .before .before .decode .ensures) (l .inv .3) (omega arith) (c .encode .ensures)
 
 pub bench-falls-spec : {M : Type 1} → statement M
 bench-falls-spec =
