@@ -207,7 +207,8 @@ impl Run {
         let spare = self.spare();
         let Gave { result, state: after, answer } = self.port.perform(&call, &state);
         let number = if no_state { 7 } else { 6 };
-        let mut same = result == number && answer == refused(number) && after == state;
+        let mut same = result == number && answer == refused(number);
+        same &= after == state;
         same &= self.spare() == spare;
         same &= self.same_memory();
         if !same {
@@ -232,7 +233,8 @@ impl Run {
         }
         let Gave { result, state, answer } = self.port.perform(&call, before);
         let number = outcome.answer[0];
-        let mut same = result == number && answer == expected(call.record[0], &outcome.answer) && state == outcome.state;
+        let mut same = result == number && answer == expected(call.record[0], &outcome.answer);
+        same &= state == outcome.state;
         same &= self.spare() == spare;
         same &= self.same_memory();
         if !same {
