@@ -1,28 +1,26 @@
 -- What a record's outcome is, from what its call gave. Assumes nothing.
 use Prim.Native.Nat.{ℕ}
 use mathlib.Core.Path.{_≡_, refl, sym, subst}
-use mathlib.Core.List.{List}
+use mathlib.Core.List.{List, [], _∷_}
+use mathlib.Core.Logic.{⊎-elim}
+use native.Mathlib.Omega.{arith}
+use types.Run.{OneOf}
+use denote.Enum.Declared.{tagOf}
+use Rattle.answers.proofs.PairAnswer.{the-type}
 use lib.ListN.{length}
 use Rattle.console.specs.declared.Cgb.{Cgb}
-use Rattle.transfer.specs.declared.pair.BytePair.{BytePair}
-use Rattle.transfer.specs.declared.pair.NextAnswer.the-variants as next
 use Rattle.answers.specs.declared.PairAnswer.{PairAnswer}
 use Rattle.answers.specs.declared.PairAnswer.the-variants as pair
-use Rattle.replay_step.specs.Step.{pairNumber, pairIn, line, lineOf, pairLineOf, stepOf, wramOf, Performed}
+use Rattle.replay_step.specs.Step.{pairNumber, lineOf, pairLineOf, stepOf, wramOf, Performed}
 use Rattle.replay_step.specs.declared.record.Record.{Record}
 use Rattle.replay_step.specs.declared.step.Stepped.{Stepped}
 
-pub none-handed : (a : PairAnswer) (s : Cgb) → pairIn a ≡ next.None → lineOf (pairNumber a) s ≡ pairLineOf a s
+-- where `let Pair(..) = answer else` takes its `else`: the answer is one of the variants behind `Pair`
+pub none-handed : (a : PairAnswer) (s : Cgb) → OneOf (1 ∷ 2 ∷ []) (tagOf the-type a) → lineOf (pairNumber a) s ≡ pairLineOf a s
 unfolding pairLineOf
-none-handed (pair.Pair p) s e = cc
-none-handed pair.None s e = refl
-none-handed (pair.Refused n) s e = refl
-
-pub pair-handed : (a : PairAnswer) (s : Cgb) (p : BytePair) → pairIn a ≡ next.Pair p → line 0 1 (p .source) (p .dest) s ≡ pairLineOf a s
-unfolding pairLineOf
-pair-handed (pair.Pair q) s p e = cc
-pair-handed pair.None s p e = cc
-pair-handed (pair.Refused n) s p e = cc
+none-handed (pair.Pair p) s other = absurd (⊎-elim (λ one. omega arith) (λ two. omega arith) other)
+none-handed pair.None s other = refl
+none-handed (pair.Refused n) s other = refl
 
 -- a record that is this one
 pub as-known : (s : Cgb) (wram : List ℕ) (e k : Record) (r : Stepped) (last : List ℕ) → k ≡ e → Performed s wram e r last → Performed s wram k r last

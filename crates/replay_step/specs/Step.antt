@@ -18,8 +18,6 @@ use Rattle.answers.specs.declared.FlagAnswer.{FlagAnswer}
 use Rattle.answers.specs.declared.PairAnswer.{PairAnswer}
 use Rattle.answers.specs.declared.PairAnswer.the-variants as pair
 use Rattle.answers.specs.declared.SwitchAnswer.{SwitchAnswer}
-use Rattle.transfer.specs.declared.pair.NextAnswer.{NextAnswer}
-use Rattle.transfer.specs.declared.pair.NextAnswer.the-variants as next
 use Rattle.replay_step.specs.declared.record.Record.{Record}
 use Rattle.replay_step.specs.declared.record.Record.the-variants.{Write, Fall, NextPair, Switch, LcdOff, EscapeDrain, Blackout, Unknown}
 use Rattle.replay_step.specs.declared.step.Line.{Line}
@@ -40,11 +38,6 @@ switchNumber a = switchSays a .number
 
 abbrev pub pairNumber : PairAnswer → ℕ
 pairNumber a = pairSays a .number
-
-abbrev pub pairIn : PairAnswer → NextAnswer
-pairIn (pair.Pair p) = next.Pair p
-pairIn pair.None = next.None
-pairIn (pair.Refused n) = next.None
 
 -- left and FF55 are those after the record
 abbrev pub line : ℕ → ℕ → ℕ → ℕ → Cgb → Stepped

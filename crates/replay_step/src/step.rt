@@ -1,6 +1,6 @@
 // What a record does, and the numbers of its line.
 ghost use mathlib.Core.Path.{_≡_};
-ghost use Rattle.replay_step.specs.Step.{doneNumber, claimNumber, flagNumber, switchNumber, pairNumber, pairIn, lineOf, pairLineOf, stepOf, Performed};
+ghost use Rattle.replay_step.specs.Step.{doneNumber, claimNumber, flagNumber, switchNumber, pairNumber, lineOf, pairLineOf, stepOf, Performed};
 use crate::record::Record;
 use answers::ClaimAnswer;
 use answers::DoneAnswer;
@@ -12,7 +12,6 @@ use console::same;
 use fall_edge::FallInput;
 use registers::WriteInput;
 use speed_switch::switch::SwitchInput;
-use transfer::pair::NextAnswer;
 
 // A line without its number: the refusal or 0, how many pairs came, what is left and FF55 after the record, and the pair.
 pub struct Line {
@@ -99,23 +98,11 @@ fn quiet(state: Cgb, refusal: u8) -> Stepped
     }
 }
 
-// The pair of an answer, if it has one.
-fn pair_in(a: PairAnswer) -> NextAnswer
-    ensures { λ r. ⌜ r ≡ pairIn a ⌝ }
-{
-    match a {
-        PairAnswer::Pair(p) => NextAnswer::Pair(p),
-        PairAnswer::None => NextAnswer::None,
-        PairAnswer::Refused(_) => NextAnswer::None,
-    }
-}
-
 fn handed(state: Cgb, answer: PairAnswer) -> Stepped
     ensures { λ r. ⌜ r ≡ pairLineOf answer state ⌝ }
 {
     let refusal = pair_number(answer);
-    let found = pair_in(answer);
-    let NextAnswer::Pair(pair) = found else {
+    let PairAnswer::Pair(pair) = answer else {
         return quiet(state, refusal);
     };
     let ff55 = hdma::hdma5::status_byte(state.vram_dma);
