@@ -1,15 +1,12 @@
 // Replays records of 16 bytes from standard input, from power-on without compat, and writes a line for each
 // (document 01, section 6): record from 0, refusal or 0, pairs, left, FF55 in two capitals. It streams:
 // input and output pass through buffers of fixed size.
-mod line;
-
 ghost use Prim.Native.Nat.{_<_, _≤_};
 use console::Cgb;
 use libc::STDIN_FILENO;
 use libc::STDOUT_FILENO;
-use memory::byte_at;
+use replay_step::line;
 use replay_step::record;
-use replay_step::record::Record;
 use replay_step::step;
 
 // Below this many bytes the output buffer still takes a line whole.
@@ -24,36 +21,6 @@ struct Replay {
 struct Turned {
     replay: Replay,
     more: bool,
-}
-
-// The first 16 bytes.
-fn sixteen(part: &[u8]) -> [u8; 16] {
-    [
-        byte_at(part, 0),
-        byte_at(part, 1),
-        byte_at(part, 2),
-        byte_at(part, 3),
-        byte_at(part, 4),
-        byte_at(part, 5),
-        byte_at(part, 6),
-        byte_at(part, 7),
-        byte_at(part, 8),
-        byte_at(part, 9),
-        byte_at(part, 10),
-        byte_at(part, 11),
-        byte_at(part, 12),
-        byte_at(part, 13),
-        byte_at(part, 14),
-        byte_at(part, 15),
-    ]
-}
-
-// The record at the start of a part; a short one is of no kind.
-fn record_of(part: &[u8]) -> Record {
-    if part.len() < 16 {
-        return Record::Unknown;
-    }
-    record::decode(sixteen(part))
 }
 
 // The place past the record at i.
@@ -77,7 +44,7 @@ fn feed(r: Replay, part: &[u8], out: &mut [u8], wram: &mut [u8]) -> Replay {
     let mut at: usize = 0;
     let mut i: usize = 0;
     while i < part.len() {
-        let stepped = step::perform(state, wram, record_of(&part[i..]));
+        let stepped = step::perform(state, wram, record::record_of(&part[i..]));
         state = stepped.state;
         at = line::put_line(out, at, number, stepped.line);
         number = std::num::wrapping_add_u64(number, 1);

@@ -5,7 +5,8 @@
 use Prim.Native.Nat.{ℕ, _/_, _%_}
 use mathlib.Core.Bool.{Bool, cond, not}
 use mathlib.Core.List.{List}
-use lib.Dec.{eqb}
+use lib.Dec.{eqb, ltb}
+use lib.ListN.{length}
 use Rattle.codec.specs.Number.{byteAt, numberAt}
 use Rattle.fall_edge.specs.declared.FallInput.{FallInput}
 use Rattle.registers.specs.declared.WriteInput.{WriteInput}
@@ -59,3 +60,7 @@ recordIn kind bytes =
 
 unfoldable pub recordOf : List ℕ → Record
 recordOf bytes = recordIn (byteAt bytes 0) bytes
+
+-- the record at the start of some bytes; a short one is of no kind ("6 replay record of other kind or short")
+unfoldable pub recordAtStart : List ℕ → Record
+recordAtStart bytes = cond (ltb (length bytes) 16) Unknown (recordOf bytes)

@@ -1,10 +1,12 @@
 // A replay record: 16 bytes, the kind first, numbers lowest byte first. Other bytes and bits are ignored.
 ghost use mathlib.Core.Path.{_≡_};
-ghost use Rattle.replay_step.specs.Record.{edgeOf, addressOf, elapsedOf, writeInputOf, fallInputOf, switchInputOf, recordOf};
+ghost use Rattle.codec.specs.Number.{bytesAt};
+ghost use Rattle.replay_step.specs.Record.{edgeOf, addressOf, elapsedOf, writeInputOf, fallInputOf, switchInputOf, recordOf, recordAtStart};
 use codec::number::of_eight;
 use codec::number::of_four;
 use codec::number::of_two;
 use fall_edge::FallInput;
+use memory::byte_at;
 use registers::WriteInput;
 use speed_switch::switch::SwitchInput;
 
@@ -110,4 +112,38 @@ pub fn decode(bytes: [u8; 16]) -> Record
         7 => Record::Blackout(elapsed(bytes)),
         _ => Record::Unknown,
     }
+}
+
+// The first 16 bytes.
+fn sixteen(bytes: &[u8]) -> [u8; 16]
+    ensures { λ r. ⌜ r ≡ bytesAt (now (bytes .entry)) 0 16 ⌝ }
+{
+    [
+        byte_at(bytes, 0),
+        byte_at(bytes, 1),
+        byte_at(bytes, 2),
+        byte_at(bytes, 3),
+        byte_at(bytes, 4),
+        byte_at(bytes, 5),
+        byte_at(bytes, 6),
+        byte_at(bytes, 7),
+        byte_at(bytes, 8),
+        byte_at(bytes, 9),
+        byte_at(bytes, 10),
+        byte_at(bytes, 11),
+        byte_at(bytes, 12),
+        byte_at(bytes, 13),
+        byte_at(bytes, 14),
+        byte_at(bytes, 15),
+    ]
+}
+
+// The record at the start of some bytes; a short one is of no kind.
+pub fn record_of(bytes: &[u8]) -> Record
+    ensures { λ r. ⌜ r ≡ recordAtStart (now (bytes .entry)) ⌝ }
+{
+    if bytes.len() < 16 {
+        return Record::Unknown;
+    }
+    decode(sixteen(bytes))
 }

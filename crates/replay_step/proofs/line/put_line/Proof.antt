@@ -1,0 +1,45 @@
+-- `put_line` meets its contract: its pieces stored one behind the other. Assumes nothing.
+use Rattle.text.proofs.Stored.{then}
+use Rattle.replay_step.specs.Line.{lineText}
+use borrow.Author.Needs.{needs}
+use Rattle.replay_step.proofs.line.put_line.Statement.{statement}
+use Rattle.replay_step.proofs.line.put_line.Tie as tie
+
+cast-put-field : tie.Need-cast-put-field
+cast-put-field c = search needs
+
+cast-put-field-2 : tie.Need-cast-put-field-2
+cast-put-field-2 c = search needs
+
+cast-put-field-3 : tie.Need-cast-put-field-3
+cast-put-field-3 c = search needs
+
+same-length : tie.Need-same-length
+same-length c = search needs
+
+returns : tie.Need-returns
+unfolding lineText
+returns c =
+    let end = c .before .before in
+    let ff55 = end .before .before .before .before in
+    let left = ff55 .before .before .before .before in
+    let pairs = left .before .before .before .before .before in
+    let refusal = pairs .before .before .before .before .before in
+    let number = refusal .before .before .before .before .before in
+    then (then (then (then (then (number .put-field .ensures) (refusal .put-field2 .ensures)) (pairs .put-field3 .ensures)) (left .put-field4 .ensures)) (ff55 .put-hex .ensures)) (end .put .ensures)
+
+pub put-line-spec : {M : Type 1} → statement M
+put-line-spec =
+    tie.close
+    (tie.spec
+    (λ _ _. tt)
+    cast-put-field
+    (λ _ _. tt)
+    cast-put-field-2
+    (λ _ _. tt)
+    cast-put-field-3
+    (λ _ _. tt)
+    (λ _ _. tt)
+    (λ _ _. tt)
+    same-length
+    returns)

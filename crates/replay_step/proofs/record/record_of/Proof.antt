@@ -1,0 +1,25 @@
+-- `record_of` meets its contract. Assumes nothing.
+use Prim.Native.Nat.{ℕ}
+use mathlib.Core.Path.{_≡_, refl, ap, _∙_}
+use mathlib.Core.List.{List}
+use borrow.Author.Tests.{lt-ltb, le-ltb}
+use Rattle.codec.specs.Number.{bytesAt}
+use Rattle.replay_step.specs.Record.{fallInputOf, switchInputOf, recordOf, recordAtStart}
+use Rattle.replay_step.proofs.record.record_of.Statement.{statement}
+use Rattle.replay_step.proofs.record.record_of.Tie as tie
+
+-- a record reads nothing behind its first 16 bytes
+first-sixteen : (bytes : List ℕ) → recordOf (bytesAt bytes 0 16) ≡ recordOf bytes
+unfolding recordOf fallInputOf switchInputOf
+first-sixteen bytes = refl
+
+returns : tie.Need-returns
+unfolding recordAtStart
+returns c = rw (lt-ltb _ _ (c .if1 .taken))
+
+returns-2 : tie.Need-returns-2
+unfolding recordAtStart
+returns-2 c = rw (le-ltb _ _ (c .before .before .if1 .left)) (c .decode .ensures ∙ ap recordOf (c .before .sixteen .ensures) ∙ first-sixteen _)
+
+pub record-of-spec : {M : Type 1} → statement M
+record-of-spec = tie.close (tie.spec returns (λ _ _. tt) (λ _ _. tt) returns-2)
