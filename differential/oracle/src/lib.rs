@@ -23,6 +23,7 @@ pub mod loops;
 mod memory;
 mod random;
 pub mod replay;
+mod sample;
 mod vectors;
 
 include!(concat!(env!("OUT_DIR"), "/originals.rs"));
@@ -76,7 +77,7 @@ impl missingno_gb::Model for Cgb {
 /// The commands.
 pub fn command() {
     let words: Vec<String> = std::env::args().skip(1).collect();
-    let usage = "usage: oracle vectors|select SEED COUNT [KIND,KIND,..] | cases | script SEED COUNT | replay | compare SEED COUNT [rising]";
+    let usage = "usage: oracle vectors|select SEED COUNT [KIND,KIND,..] | cases | script SEED COUNT | sample | replay | compare SEED COUNT [rising]";
     match words.first().map(String::as_str) {
         Some("vectors") => vectors::write(&words[1..], usage),
         Some("select") => vectors::select(&words[1..], usage),
@@ -93,6 +94,7 @@ pub fn command() {
             };
             replay::script(seed, count, std::io::stdout().lock()).expect("the script could not be written");
         }
+        Some("sample") => sample::write_to(&mut std::io::stdout().lock()).expect("the script could not be written"),
         #[cfg(port)]
         Some("compare") => compare::run(&words[1..], usage),
         #[cfg(not(port))]

@@ -1,0 +1,182 @@
+//! The script that is stored as crates/replay/stdin: document 01's six records, then what these leave out. Each record has junk in
+//! every bit that its kind ignores, but for the paper's and the repetitive ones. Only the original's lines are stored beside it.
+use std::io::Write;
+
+use crate::calls::kind;
+use crate::random::Random;
+use crate::vectors;
+
+type Record = [u8; 16];
+
+const RECORDS: usize = 10_200;
+
+/// The bits that a kind ignores (document 01, section 6).
+fn ignored(kind: u8) -> Record {
+    let mut used = [0; 16];
+    used[0] = 0xFF;
+    match kind {
+        kind::WRITE => used[2..6].fill(0xFF),
+        kind::FALL | kind::SWITCH => {
+            used[4] = 0xFF;
+            used[5] = if kind == kind::FALL { 0x0F } else { 0x03 };
+            used[8..].fill(0xFF);
+        }
+        kind::BLACKOUT => used[8..12].fill(0xFF),
+        _ => {}
+    }
+    used.map(|bits: u8| !bits)
+}
+
+fn plain(kind: u8) -> Record {
+    let mut record = [0; 16];
+    record[0] = kind;
+    record
+}
+
+fn write(address: u16, value: u8) -> Record {
+    let mut record = plain(kind::WRITE);
+    record[2..4].copy_from_slice(&address.to_le_bytes());
+    record[4] = value;
+    record[5] = 1;
+    record
+}
+
+fn fall(mode: u8, flags: u8) -> Record {
+    let mut record = plain(kind::FALL);
+    record[4] = mode;
+    record[5] = flags;
+    record
+}
+
+fn switch(phase: u8, flags: u8) -> Record {
+    let mut record = plain(kind::SWITCH);
+    record[4] = phase;
+    record[5] = flags;
+    record
+}
+
+fn blackout(elapsed: u32) -> Record {
+    let mut record = plain(kind::BLACKOUT);
+    record[8..12].copy_from_slice(&elapsed.to_le_bytes());
+    record
+}
+
+struct Script {
+    records: Vec<Record>,
+    random: Random,
+}
+
+impl Script {
+    fn put(&mut self, records: &[Record]) {
+        self.records.extend(records);
+    }
+
+    fn put_junked(&mut self, records: &[Record]) {
+        for record in records {
+            let mask = ignored(record[0]);
+            let junk: Record = std::array::from_fn(|k| record[k] | self.random.next() as u8 & mask[k]);
+            self.records.push(junk);
+        }
+    }
+
+    /// "write FF55 = 00 with LCD on, fall mode 3, three next pairs, kind 9"
+    fn paper(&mut self) {
+        let pair = plain(kind::NEXT_PAIR);
+        self.put(&[write(0xFF55, 0x00), fall(3, 0), pair, pair, pair, plain(9)]);
+    }
+
+    /// Every first byte; the write leaves 2,048.
+    fn kinds(&mut self) {
+        for kind in 0..=255 {
+            let record = match kind {
+                kind::WRITE => write(0xFF55, 0x7F),
+                kind::FALL => fall(3, 0),
+                kind::SWITCH => switch(5, 0),
+                kind::BLACKOUT => blackout(7),
+                _ => plain(kind),
+            };
+            self.put_junked(&[record]);
+        }
+    }
+
+    /// A General transfer of 2,048 bytes to its end: left in four digits, then three, two and one.
+    fn longest(&mut self) {
+        self.put(&[write(0xFF55, 0x7F)]);
+        for _ in 0..1_025 {
+            self.put(&[fall(3, 0), plain(kind::NEXT_PAIR), plain(kind::NEXT_PAIR)]);
+        }
+    }
+
+    /// K9: the fifth fall of round 256 gets 14.
+    fn granted_full(&mut self) {
+        self.put(&[write(0xFF55, 0xFF)]);
+        for _ in 0..256 {
+            self.put(&[fall(3, 0), fall(3, 1), fall(3, 1), fall(0, 1), fall(0, 0), fall(0, 0)]);
+        }
+    }
+
+    /// Each bit of a fall, in each mode and in two that are none.
+    fn flags(&mut self) {
+        self.put_junked(&[write(0xFF55, 0x83)]);
+        for flags in 0..16 {
+            for mode in [3, 0, 1, 2, 4, 255] {
+                self.put_junked(&[fall(mode, flags), plain(kind::NEXT_PAIR)]);
+            }
+        }
+    }
+
+    /// A block in HBlank, two bytes of it moved.
+    fn half_a_block(&mut self, length: u8) {
+        let pair = plain(kind::NEXT_PAIR);
+        self.put_junked(&[write(0xFF55, length), fall(3, 0)]);
+        self.put_junked(&[fall(0, 0); 4]);
+        self.put_junked(&[pair, pair]);
+    }
+
+    /// Every refusal of a switch, a cut with its free byte and a cut that is drained; LCD off.
+    fn switches(&mut self) {
+        let (pair, armed) = (plain(kind::NEXT_PAIR), write(0xFF4D, 0x01));
+        self.half_a_block(0x81);
+        self.put_junked(&[switch(0, 0), armed, switch(0, 1), switch(5, 0), switch(255, 3), switch(4, 0), switch(0, 0)]);
+        self.put_junked(&[fall(3, 0), pair, pair, blackout(131_076), armed, switch(0, 2), blackout(1)]);
+        self.half_a_block(0x82);
+        self.put_junked(&[switch(0, 2), plain(kind::LCD_OFF), switch(0, 2), blackout(u32::MAX)]);
+        self.half_a_block(0x83);
+        self.put_junked(&[armed, switch(2, 2), fall(3, 0), plain(kind::ESCAPE_DRAIN), plain(kind::ESCAPE_DRAIN)]);
+        self.put_junked(&[blackout(4), armed, switch(1, 0), blackout(1), switch(1, 0), blackout(0x0100_0000)]);
+    }
+
+    /// The lengths of K7: one edge short the next switch gets 11, then none is left.
+    fn lengths(&mut self) {
+        for edges in [131_077, 262_144, 131_079, 262_144, 131_079] {
+            self.put_junked(&[write(0xFF4D, 0x01), switch(3, 0), write(0xFF4D, 0x01), switch(3, 0)]);
+            self.put_junked(&[blackout(edges - 1), switch(3, 0), blackout(1)]);
+        }
+    }
+
+    /// Calls as the other runs make them, up to the script's length.
+    fn rest(&mut self) {
+        let kinds: Vec<u8> = (kind::WRITE..=kind::BLACKOUT).collect();
+        let mut phase = 5;
+        while self.records.len() < RECORDS {
+            let step = self.records.len() as u64;
+            let record = vectors::likely(&mut self.random, &kinds, step, &mut phase).record;
+            self.put(&[record]);
+        }
+    }
+}
+
+/// The last record is 15 bytes of a write that would leave 16.
+pub fn write_to(output: &mut impl Write) -> std::io::Result<()> {
+    let mut script = Script { records: Vec::new(), random: Random::new(6) };
+    script.paper();
+    script.kinds();
+    script.longest();
+    script.granted_full();
+    script.flags();
+    script.switches();
+    script.lengths();
+    script.rest();
+    output.write_all(&script.records.concat())?;
+    output.write_all(&write(0xFF55, 0x00)[..15])
+}
