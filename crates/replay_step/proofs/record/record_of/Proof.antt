@@ -2,7 +2,9 @@
 use Prim.Native.Nat.{ℕ}
 use mathlib.Core.Path.{_≡_, refl, ap, _∙_}
 use mathlib.Core.List.{List}
+use native.Mathlib.Omega.{arith}
 use borrow.Author.Tests.{lt-ltb, le-ltb}
+use lib.ListN.{length}
 use Rattle.codec.specs.Number.{bytesAt}
 use Rattle.replay_step.specs.Record.{fallInputOf, switchInputOf, recordOf, recordAtStart}
 use Rattle.replay_step.proofs.record.record_of.Statement.{statement}
@@ -15,11 +17,12 @@ first-sixteen bytes = refl
 
 returns : tie.Need-returns
 unfolding recordAtStart
-returns c = rw (lt-ltb _ _ (c .if1 .taken))
+returns c = rw (lt-ltb (length (c .before .before .args .bytes .now)) 16 (omega arith))
 
 returns-2 : tie.Need-returns-2
 unfolding recordAtStart
-returns-2 c = rw (le-ltb _ _ (c .before .before .if1 .left)) (c .decode .ensures ∙ ap recordOf (c .before .sixteen .ensures) ∙ first-sixteen _)
+returns-2 c =
+    rw (le-ltb (length (c .before .before .before .before .args .bytes .now)) 16 (omega arith)) (c .decode .ensures ∙ ap recordOf (c .before .sixteen .ensures) ∙ first-sixteen _)
 
 pub record-of-spec : {M : Type 1} → statement M
 record-of-spec = tie.close (tie.spec returns (λ _ _. tt) (λ _ _. tt) returns-2)
