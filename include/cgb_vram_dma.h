@@ -36,7 +36,7 @@ extern "C" {
  *   8 read                    2-3 address
  *   9 bus call                5 bits 0-1 hold, suspended; 8-15 OAM DMA's start edge
  *  10 arbitration             5 bits 0-2 hold, suspended, OAM DMA transfers
- *  11 write conflict          2-3 address
+ *  11 write conflict          2-3 address: does a CPU read of it meet the byte that the engine is writing there?
  *  12 wake intake             5 bit 0 M-cycle boundary
  *  13 instruction retired
  *  14 tally  15 status  16 claim  17 park waits for fetch  18 request standing  19 holds CPU  20 seizes bus
@@ -55,7 +55,7 @@ extern "C" {
  *   8, 24-26                  a byte
  *   9                         how many pairs, set-up cell used
  *  10                         0 clear, 1 contended, 2 stall
- *  11                         1, source; or 0 for none
+ *  11                         1, the source of the byte that the read meets; or 0 for none
  *  14                         source, destination, left, escape owed
  *  15                         0 Idle; 1 General, left; 2 HBlank, left, source, where the next byte lands
  */

@@ -77,7 +77,9 @@ impl Cgb {
         Ok(perform(&mut self.0.clone(), record, memory)?.byte(0))
     }
 
-    /// A falling edge of the CPU's clock. The claim says whether it committed a block, and whether it stands.
+    /// A fall: a falling edge of the *dot* clock, at either speed (the CPU's clock has two to a dot at double speed). The claim
+    /// says whether this fall committed a block, and whether that claim is standing: the pend's age was 4 or more, and OAM DMA
+    /// owns no bus.
     pub fn vram_dma_fall_edge(&mut self, fall: Fall) -> Result<Claim, Refusal> {
         let bits = [fall.halted, fall.interrupt_latched, fall.stopped, fall.oam_dma];
         Ok(self.alone(Record::of(2).small(fall.mode).bits(&bits).edge(fall.edge))?.claim())
@@ -101,12 +103,13 @@ impl Cgb {
         Ok(self.alone(Record::of(6))?.handed())
     }
 
-    /// Whether the blackout is over.
+    /// Takes the elapsed master edges from the blackout, and says whether none are left.
     pub fn drain_speed_switch_blackout(&mut self, elapsed: u32) -> Result<bool, Refusal> {
         Ok(self.alone(Record::of(7).edge(elapsed.into()))?.flag(0))
     }
 
-    /// The bus call: moves what this M-cycle's quota allows, if the bus is held or the CPU suspended.
+    /// The bus call: if the CPU is held or the bus suspended, a set-up cell is used up, or what is left of the last fall's quota
+    /// is moved: two bytes at most where that fall was at single speed, one at double.
     pub fn vram_dma_commit_bytes(
         &mut self,
         memory: Memory,
@@ -126,13 +129,14 @@ impl Cgb {
         Ok(self.alone(Record::of(10).bits(&[hold, suspended, oam_transfers]))?.arbitration())
     }
 
-    /// The source that a CPU write at this address meets, if it meets one.
+    /// The write conflict: the source of the byte that the engine is writing at this address, if a CPU *read* of the address
+    /// meets it. That is at double speed only, and once the engine has seized the bus for two falls or more.
     pub fn vram_dma_conflict_source(&self, address: u16) -> Result<Option<u16>, Refusal> {
         let answer = self.ask(Record::of(11).address(address))?;
         Ok(answer.flag(0).then(|| answer.word(1)))
     }
 
-    /// Whether the wake's latency is over.
+    /// Whether the wake's latency is over: the first call starts it, and a call at an M-cycle's boundary ends it.
     pub fn speed_switch_wake_ready(&mut self, boundary: bool) -> Result<bool, Refusal> {
         Ok(self.alone(Record::of(12).bits(&[boundary]))?.flag(0))
     }

@@ -45,7 +45,7 @@ impl std::fmt::Display for Refusal {
 
 impl std::error::Error for Refusal {}
 
-/// A byte's way: where it is read and where it lands.
+/// A byte's way: where it is read and where it lands, an address from 8000h to 9FFFh.
 #[derive(Clone, Copy, Debug, PartialEq, Eq)]
 pub struct Pair {
     pub source: u16,
@@ -61,13 +61,13 @@ pub struct Fall {
     pub stopped: bool,
     /// OAM DMA owns a bus.
     pub oam_dma: bool,
-    /// The master clock's edge.
+    /// The master clock's edge at this fall.
     pub edge: u64,
 }
 
 #[derive(Clone, Copy, Debug, Default)]
 pub struct SwitchInputs {
-    /// 0 to 3.
+    /// 0 to 3; 4 is the same as None, and more gets refusal 3.
     pub dot_phase: Option<u8>,
     pub hold: bool,
     pub interrupt_ready: bool,
@@ -95,6 +95,7 @@ pub enum Arbitration {
     Stall,
 }
 
+/// The engine's registers as they run, the destination with all its 16 bits.
 #[derive(Clone, Copy, Debug, PartialEq, Eq)]
 pub struct Tally {
     pub source: u16,
@@ -103,6 +104,7 @@ pub struct Tally {
     pub escape_owed: bool,
 }
 
+/// The source and the destination are where the next byte is read and where it lands.
 #[derive(Clone, Copy, Debug, PartialEq, Eq)]
 pub enum Status {
     Idle,
