@@ -3,3 +3,4 @@ pub mod Latch
 pub mod Pair
 pub mod Conflict
 pub mod Steps
+pub mod QuestionSteps
