@@ -5,3 +5,6 @@ pub mod Key1
 pub mod Mapped
 pub mod Keeps
 pub mod Steps
+pub mod Named
+pub mod MapSteps
+pub mod CompatSteps
