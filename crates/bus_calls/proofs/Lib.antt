@@ -1,3 +1,5 @@
 pub mod Accepted
 pub mod Says
 pub mod Bused
+pub mod AccessSteps
+pub mod SharedBusSteps

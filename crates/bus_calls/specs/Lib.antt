@@ -1,3 +1,5 @@
 pub mod Access
 pub mod Bus
 pub mod BusCall
+pub mod AccessSteps
+pub mod SharedBusSteps

@@ -1,7 +1,7 @@
 -- What is shown of the queries (document 01, sections 4 and 5; the Rust's queries of `Cgb`), of each state that passes 7: a
 -- yes-or-no query answers yes exactly when its conditions hold, which stand as facts about fields and numbers (`QuestionSteps`
 -- and `SpeedSteps` have those that are named here), and every other query gives its fields.
-use Prim.Native.Nat.{ℕ, _+_, _%_, _<_}
+use Prim.Native.Nat.{_+_, _%_, _<_}
 use mathlib.Core.Path.{_≡_}
 use mathlib.Core.Bool.{Bool, true, false}
 use mathlib.Core.Logic.{_↔_}

@@ -1,16 +1,16 @@
 -- Compat locks the addresses that document 01 names and no other (specs, `CompatSteps`). Assumes nothing.
-use Prim.Native.Nat.{ℕ, zero, suc, _+_, _<_, _≤_}
+use Prim.Native.Nat.{ℕ, zero, suc, _+_, _≤_}
 use native.Mathlib.Omega.{arith}
-use mathlib.Core.Path.{_≡_, refl, sym, ap, subst, _∙_}
-use mathlib.Core.Bool.{Bool, true, false, cond, _&&_}
+use mathlib.Core.Path.{_≡_, refl, sym, subst}
+use mathlib.Core.Bool.{true, false}
 use mathlib.Core.List.{List}
-use mathlib.Core.Logic.{_⊎_, inl, inr, ⊎-elim}
+use mathlib.Core.Logic.{inl, inr, ⊎-elim}
 use Rattle.console.specs.declared.Cgb.{Cgb}
-use Rattle.registers.specs.Map.{Register, KEY0, KEY1, VBK, HDMA1, HDMA2, HDMA3, HDMA4, HDMA5, SVBK, FF72, FF73, FF74, FF75, Place, workRam, bankedRam, extraOam, register, unmapped, placeOf, isMapped, locksAt}
+use Rattle.registers.specs.Map.{Register, KEY0, KEY1, VBK, HDMA1, HDMA2, HDMA3, HDMA4, HDMA5, SVBK, FF72, FF73, FF74, FF75, Place, workRam, bankedRam, extraOam, register, unmapped, placeOf, locksAt}
 use Rattle.registers.specs.Read.{byteAt, mapReadOf}
 use Rattle.registers.specs.Write.{registerWritten, stateAt, wramAt, wramAfter, storedOf, mapWriteOf}
 use Rattle.registers.specs.CompatSteps.{LocksWrite, LocksRead, compat, cgbMode, withCompat, CompatSteps}
-use Rattle.registers.specs.declared.MapRead.the-variants.{Byte, Unmapped}
+use Rattle.registers.specs.declared.MapRead.the-variants.{Byte}
 use Rattle.registers.specs.declared.WriteInput.{WriteInput}
 use Rattle.registers.proofs.Places.{at-c, at-d, at-e, at-f, at-oam, below, between, above}
 use Rattle.registers.proofs.Locks.{not-locked}

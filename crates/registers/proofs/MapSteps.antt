@@ -2,10 +2,9 @@
 use Prim.Native.Nat.{ℕ, zero, suc, _+_, _-_, _*_, _/_, _%_, _<_, _≤_}
 use native.Mathlib.Omega.{arith}
 use mathlib.Core.Path.{_≡_, refl, sym, ap, subst, _∙_}
-use mathlib.Core.Bool.{Bool, true, false, cond, and-false, false≢true}
+use mathlib.Core.Bool.{true, false, and-false, false≢true}
 use mathlib.Core.List.{List}
 use mathlib.Core.Logic.{_↔_, _⊎_, inl, inr, ⊎-elim}
-use lib.Dec.{eqb}
 use lib.ListN.{getD, set}
 use borrow.Author.Tests.{eq-eqb, ne-eqb}
 use Rattle.console.specs.Set.{withExtraOam}
@@ -97,7 +96,7 @@ back a (inr (inr (inr (inr (inr (inl h)))))) = range InMap 0xFF51 4 a pointers (
 back a (inr (inr (inr (inr (inr (inr (inl e))))))) = subst InMap (sym e) refl
 back a (inr (inr (inr (inr (inr (inr (inr h))))))) = range InMap 0xFF72 3 a scratch (h .0) (h .1)
 
-mapped : (a : ℕ) → (isMapped (placeOf a) ≡ true) ↔ Mapped a
+pub mapped : (a : ℕ) → (isMapped (placeOf a) ≡ true) ↔ Mapped a
 mapped a = (there a, back a)
 
 off : (a : ℕ) → (Mapped a → ⊥) → isMapped (placeOf a) ≡ false
