@@ -54,15 +54,29 @@ fn put_short(out: &mut [u8], at: usize, n: u16) -> usize
 }
 
 // Four digits at a time, the highest first.
-pub fn put_decimal(out: &mut [u8], at: usize, n: u64) -> usize
+fn put_long(out: &mut [u8], at: usize, n: u64) -> usize
     ensures { λ r. ⌜ Put (now (out .entry)) at (decimal n) r (now (out .exit)) ⌝ }
 {
     let low = (n % 10000) as u16;
     if n < 10000 {
         return put_short(out, at, low);
     }
-    let high = put_decimal(out, at, n / 10000);
+    let high = put_long(out, at, n / 10000);
     put_four(out, high, low)
+}
+
+// Up to eight digits go without the recursion, which is dearer.
+pub fn put_decimal(out: &mut [u8], at: usize, n: u64) -> usize
+    ensures { λ r. ⌜ Put (now (out .entry)) at (decimal n) r (now (out .exit)) ⌝ }
+{
+    if n < 10000 {
+        return put_short(out, at, n as u16);
+    }
+    if n < 100000000 {
+        let high = put_short(out, at, (n / 10000) as u16);
+        return put_four(out, high, (n % 10000) as u16);
+    }
+    put_long(out, at, n)
 }
 
 // A decimal number and a space.
