@@ -3,22 +3,41 @@
 use Prim.Native.Nat.{ℕ, _+_, _-_, _<_, _≤_}
 use native.Mathlib.Omega.{arith}
 use mathlib.Core.Path.{_≡_, refl, sym}
-use mathlib.Core.Bool.{Bool, true, false, not, false≢true}
+use mathlib.Core.Bool.{Bool, true, false, not, _&&_, false≢true}
 use mathlib.Core.Logic.{_↔_, inl, inr, ⊎-elim}
-use borrow.Author.Tests.{ltb-true, lt-ltb, eqb-true, eq-eqb, ne-eqb}
+use lib.Dec.{ltb}
+use borrow.Author.Tests.{ltb-true, ltb-false, lt-ltb, le-ltb, eqb-true, eq-eqb, ne-eqb}
 use Rattle.console.specs.Set.{withSpeedSwitchWakeLatency}
 use Rattle.console.specs.declared.Cgb.{Cgb}
 use Rattle.console.specs.declared.WakeLatency.the-variants.{Some}
+use Rattle.console.specs.declared.vram_dma.VramDma.{VramDma}
 use Rattle.speed_switch.specs.Speed.{dividerActive}
-use Rattle.speed_switch.specs.Switch.{blackoutOf, switchedOf}
+use Rattle.speed_switch.specs.Switch.{readyBlock, blackoutOf, switchedOf}
 use Rattle.speed_switch.specs.Blackout.{drainedOf, wokenOf}
 use Rattle.speed_switch.specs.Steps.{after}
-use Rattle.speed_switch.specs.SpeedSteps.{DividerRuns, SpeedSteps, DrainSteps, WakeSteps}
+use Rattle.speed_switch.specs.SpeedSteps.{DividerRuns, ReadyBlock, SpeedSteps, DrainSteps, WakeSteps}
 use Rattle.speed_switch.specs.declared.switch.SwitchInput.{SwitchInput}
 
 divider : (double : Bool) (blackout : ℕ) → (dividerActive double blackout ≡ true) ↔ DividerRuns double blackout
 divider true blackout = (λ e. inl (refl, ltb-true 5 blackout e), ⊎-elim (λ h. lt-ltb 5 blackout (h .1)) (λ h. absurd (false≢true (sym (h .0)))))
 divider false blackout = (λ e. inr (refl, ltb-true 2 blackout e), ⊎-elim (λ h. absurd (false≢true (h .0))) (λ h. lt-ltb 2 blackout (h .1)))
+
+module _ (d : VramDma) where
+  ready-block : (readyBlock d ≡ true) ↔ ReadyBlock d
+  unfolding readyBlock
+  ready-block = (λ e. by (ltb 0 (d .block .remaining)) (ltb 0 (d .block .«ready_in» .0)) refl refl e, back)
+    where
+      by :
+          (some waiting : Bool) → ltb 0 (d .block .remaining) ≡ some → ltb 0 (d .block .«ready_in» .0) ≡ waiting →
+          (some && not waiting) ≡ true → ReadyBlock d
+      by true false p q e =
+          let low = ltb-false 0 (d .block .«ready_in» .0) q in
+          record { latched = ltb-true 0 (d .block .remaining) p; ready = omega arith }
+      by true true p q e = absurd (false≢true e)
+      by false waiting p q e = absurd (false≢true e)
+
+      back : ReadyBlock d → (ltb 0 (d .block .remaining) && not (ltb 0 (d .block .«ready_in» .0))) ≡ true
+      back k = rw (lt-ltb 0 (d .block .remaining) (k .latched), le-ltb 0 (d .block .«ready_in» .0) (omega (arith, k .ready)))
 
 -- after a switch, by its direction and by the debit
 counted :
@@ -40,6 +59,7 @@ after-switch i s = counted (not (s .«double_speed»)) (s .«switch_relock_debit
 pub speed-steps : SpeedSteps
 speed-steps =
     record {
+      ready-block = ready-block;
       steps = (refl, refl);
       active = λ blackout. (ltb-true 0 blackout, lt-ltb 0 blackout);
       divider = divider;

@@ -1,4 +1,4 @@
--- What is shown of the speed's questions, of the blackout's drain and of the wake intake (speed_switch.rs; document 01, section
+-- What is shown of the switch's and the speed's questions, of the blackout's drain and of the wake intake (speed_switch.rs; document 01, section
 -- 4: "blackout and wake intake act as the Rust methods"). `⊎` is "or".
 use Prim.Native.Nat.{ℕ, _+_, _-_, _<_, _≤_}
 use mathlib.Core.Path.{_≡_}
@@ -8,7 +8,9 @@ use lib.Dec.{eqb}
 use Rattle.console.specs.Set.{withSpeedSwitchBlackout, withSpeedSwitchWakeLatency}
 use Rattle.console.specs.declared.Cgb.{Cgb}
 use Rattle.console.specs.declared.WakeLatency.the-variants.{None, Some}
+use Rattle.console.specs.declared.vram_dma.VramDma.{VramDma}
 use Rattle.speed_switch.specs.Speed.{stepsPerDot, blackoutActive, dividerActive}
+use Rattle.speed_switch.specs.Switch.{readyBlock}
 use Rattle.speed_switch.specs.Blackout.{drainedOf, wokenOf}
 use Rattle.speed_switch.specs.Steps.{after}
 use Rattle.speed_switch.specs.declared.switch.SwitchInput.{SwitchInput}
@@ -18,7 +20,13 @@ use Rattle.speed_switch.specs.declared.switch.SwitchInput.{SwitchInput}
 abbrev pub DividerRuns : Bool → ℕ → Type 0
 DividerRuns double blackout = ((double ≡ true) × (5 < blackout)) ⊎ ((double ≡ false) × (2 < blackout))
 
+-- a latched block that is ready, which a cut takes and 13 asks for: whatever is left of the transfer
+pub record ReadyBlock (d : VramDma) : Type 0 where
+  pub latched : 0 < d .block .remaining
+  pub ready : d .block .«ready_in» .0 ≡ 0
+
 pub record SpeedSteps : Type 0 where
+  pub ready-block : (d : VramDma) → (readyBlock d ≡ true) ↔ ReadyBlock d
   -- `steps_per_dot`
   pub steps : (stepsPerDot true ≡ 2) × (stepsPerDot false ≡ 1)
   -- `blackout_active`

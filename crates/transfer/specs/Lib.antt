@@ -4,3 +4,4 @@ pub mod Pair
 pub mod Conflict
 pub mod Steps
 pub mod QuestionSteps
+pub mod LcdSteps
