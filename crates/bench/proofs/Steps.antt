@@ -25,9 +25,9 @@ unfolding bussedOf busOf
 held-bus s i cartridge wram vram oam r lastVram lastOam input b =
     let n = lengthsOf cartridge wram vram oam in
     let state = ap (λ (x : Bussed). x .state) (b .result) ∙ ap (λ (j : BusInput). busState s j n) input in
-    let video = b .stored ∙ ap (λ (j : BusInput). busVram s j n cartridge wram vram) input in
-    let object = b .deposit ∙ ap (λ (j : BusInput). busOam s j n cartridge wram oam) input in
-    record { all = λ k. record { state = state k; vram = video k; oam = object k } }
+    let stored = b .stored ∙ ap (λ (j : BusInput). busVram s j n cartridge wram vram) input in
+    let deposit = b .deposit ∙ ap (λ (j : BusInput). busOam s j n cartridge wram oam) input in
+    record { all = λ k. record { state = state k; vram = stored k; oam = deposit k } }
 
 module _ (cartridge wram steps : List ℕ) (start : Measured) where
   pub at-first : start ≡ afterSteps cartridge wram steps start 0
@@ -93,6 +93,6 @@ benched bytes steps cartridge wram vram oam lastBytes lastVram lastOam start s i
     in
     record {
       state = encoded ∙ ap (λ (m : Measured). encodeOf (m .state)) whole;
-      video = ap (λ (m : Measured). m .vram) whole;
-      object = ap (λ (m : Measured). m .oam) whole;
+      stored = ap (λ (m : Measured). m .vram) whole;
+      deposit = ap (λ (m : Measured). m .oam) whole;
     }

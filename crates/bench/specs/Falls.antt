@@ -72,5 +72,5 @@ measuredOf bytes steps cartridge wram vram oam =
 
 pub record Benched (bytes steps cartridge wram vram oam lastBytes lastVram lastOam : List ℕ) : Type 0 where
   pub state : lastBytes ≡ encodeOf (measuredOf bytes steps cartridge wram vram oam .state)
-  pub video : lastVram ≡ measuredOf bytes steps cartridge wram vram oam .vram
-  pub object : lastOam ≡ measuredOf bytes steps cartridge wram vram oam .oam
+  pub stored : lastVram ≡ measuredOf bytes steps cartridge wram vram oam .vram
+  pub deposit : lastOam ≡ measuredOf bytes steps cartridge wram vram oam .oam
