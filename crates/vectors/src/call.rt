@@ -291,10 +291,19 @@ fn query(s: Cgb, record: &[u8; 576]) -> [u8; 8] {
     }
 }
 
+// Power-on, with or without compat: the state before is not looked at.
+fn power_on(record: &[u8; 576]) -> Outcome {
+    Outcome {
+        answer: value(0),
+        state: engine::power_on(record[4] != 0),
+    }
+}
+
 // A call that takes no slice.
 fn perform(s: Cgb, record: &[u8; 576]) -> Outcome {
     let kind = record[0];
     match kind {
+        0 => power_on(record),
         2 => fall(s, record),
         3 => next_pair(s),
         4 => switch(s, record),

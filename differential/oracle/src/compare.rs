@@ -4,6 +4,7 @@
 //! state and memory as before. What the original has no call for, a record of another kind and bytes that no state has,
 //! is given to the port alone, now and then.
 use crate::calls::{Call, Oracle, kind};
+use crate::finer;
 use crate::layout::SIZE;
 use crate::memory;
 use crate::random::Random;
@@ -253,14 +254,6 @@ impl Run {
     }
 }
 
-/// Half of the write conflicts are asked at the address that the engine writes next.
-fn aim(r: &mut Random, call: &mut Call, before: &[u8; SIZE]) {
-    if call.record[0] == kind::WRITE_CONFLICT && r.flag() {
-        let dest = u16::from_le_bytes([before[2], before[3]]);
-        call.record[2..4].copy_from_slice(&(0x8000 | dest & 0x1FFF).to_le_bytes());
-    }
-}
-
 pub fn run(given: &[String], usage: &str) {
     let number = |k: usize| given.get(k).and_then(|w| w.parse::<u64>().ok());
     let rising = given.get(2).map(String::as_str) == Some("rising");
@@ -290,7 +283,7 @@ pub fn run(given: &[String], usage: &str) {
                 vectors::call(&mut r, &kinds)
             };
             let before = if listed { now } else { vectors::state(&mut r) };
-            aim(&mut r, &mut call, &before);
+            finer::aim(&mut r, &mut call, &before);
             now = run.step(call, &before);
             given += 1;
             if declining.one_in(64) {

@@ -5,6 +5,9 @@
 //!     MISSINGNO_SRC=.. cargo run --release -- vectors SEED COUNT [KINDS] > FILE
 //!     MISSINGNO_SRC=.. cargo run --release -- select SEED COUNT [KINDS] > FILE
 //!     MISSINGNO_SRC=.. cargo run --release -- cases > FILE
+//!     MISSINGNO_SRC=.. cargo run --release -- aimed > FILE
+//!     MISSINGNO_SRC=.. BRANCHES=1 cargo run --release -- finer SEED COUNT > FILE
+//!     MISSINGNO_SRC=.. cargo run --release -- stored < FILE
 //!     MISSINGNO_SRC=.. cargo run --release -- script SEED COUNT > SCRIPT
 //!     MISSINGNO_SRC=.. cargo run --release -- replay < SCRIPT
 //!     MISSINGNO_SRC=.. PORT_LIB=.. cargo run --release -- compare SEED COUNT [rising]
@@ -13,11 +16,13 @@
 //!
 //! The originals name `crate::Cgb`, `crate::vram_dma` and so on, so they stand at this crate's root.
 
+mod aimed;
 mod calls;
 mod cases;
 #[cfg(port)]
 mod compare;
 pub mod entry;
+mod finer;
 mod layout;
 pub mod loops;
 mod memory;
@@ -74,24 +79,35 @@ impl missingno_gb::Model for Cgb {
     }
 }
 
+fn seed_and_count(words: &[String], usage: &str) -> (u64, u64) {
+    let number = |k: usize| words.get(k).and_then(|w| w.parse::<u64>().ok());
+    let (Some(seed), Some(count)) = (number(1), number(2)) else {
+        eprintln!("{usage}");
+        std::process::exit(2);
+    };
+    (seed, count)
+}
+
 /// The commands.
 pub fn command() {
     let words: Vec<String> = std::env::args().skip(1).collect();
-    let usage = "usage: oracle vectors|select SEED COUNT [KIND,KIND,..] | cases | script SEED COUNT | sample | replay | compare SEED COUNT [rising]";
+    let usage = "usage: oracle vectors|select SEED COUNT [KIND,KIND,..] | cases | aimed | finer SEED COUNT | stored | script SEED COUNT | sample | replay | compare SEED COUNT [rising]";
     match words.first().map(String::as_str) {
         Some("vectors") => vectors::write(&words[1..], usage),
         Some("select") => vectors::select(&words[1..], usage),
         Some("cases") => cases::write(&mut std::io::stdout().lock()),
+        Some("aimed") => aimed::write_all(&mut std::io::BufWriter::new(std::io::stdout().lock())),
+        Some("finer") => {
+            let (seed, count) = seed_and_count(&words, usage);
+            finer::select(seed, count);
+        }
+        Some("stored") => vectors::stored(&mut std::io::stdin().lock()),
         Some("replay") => {
             let (mut input, mut output) = (std::io::stdin().lock(), std::io::stdout().lock());
             replay::run(&mut input, &mut output).expect("the replay could not be read or written");
         }
         Some("script") => {
-            let number = |k: usize| words.get(k).and_then(|w| w.parse::<u64>().ok());
-            let (Some(seed), Some(count)) = (number(1), number(2)) else {
-                eprintln!("{usage}");
-                std::process::exit(2);
-            };
+            let (seed, count) = seed_and_count(&words, usage);
             replay::script(seed, count, std::io::stdout().lock()).expect("the script could not be written");
         }
         Some("sample") => sample::write_to(&mut std::io::stdout().lock()).expect("the script could not be written"),

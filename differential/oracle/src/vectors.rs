@@ -5,7 +5,7 @@
 //! values; of a bus call 280 the refusal, 281 the count of pairs, 282 the set-up cell, 283-287 the first
 //! pair's source, destination and byte, 288-292 the second's.
 use std::collections::HashSet;
-use std::io::{BufWriter, Write};
+use std::io::{BufWriter, Read, Write};
 
 use crate::calls::{Call, Oracle, kind};
 use crate::layout::SIZE;
@@ -343,4 +343,37 @@ pub fn select(given: &[String], usage: &str) {
     });
     out.flush().unwrap();
     eprintln!("{} of {} vectors selected", seen.len(), w.count);
+}
+
+/// Stored vectors, given to the original again: a file that only the oracle wrote has none that differs.
+pub fn stored(input: &mut dyn Read) {
+    let mut oracle = Oracle::new();
+    let (mut count, mut differ) = (0u64, 0u64);
+    let mut bytes = [0u8; RECORD];
+    while input.read_exact(&mut bytes).is_ok() {
+        let again = if bytes[0] == 0 { power_on(&oracle, bytes[4]) } else { record_again(&mut oracle, &bytes) };
+        count += 1;
+        differ += (again != bytes) as u64;
+    }
+    println!("{count} stored vectors, {differ} differ from the original");
+    if differ > 0 {
+        std::process::exit(1);
+    }
+}
+
+fn record_again(oracle: &mut Oracle, bytes: &[u8; RECORD]) -> [u8; RECORD] {
+    let mut call = Call::new(bytes[0]);
+    call.record.copy_from_slice(&bytes[..16]);
+    for (k, length) in call.lengths.iter_mut().enumerate() {
+        *length = u32::from_le_bytes(bytes[16 + 4 * k..20 + 4 * k].try_into().unwrap());
+    }
+    record(oracle, &call, bytes[32..280].try_into().unwrap()).0
+}
+
+/// A vector of kind 0, power-on: compat in byte 4, no state before, the original's `Default` after.
+pub fn power_on(oracle: &Oracle, compat: u8) -> [u8; RECORD] {
+    let mut bytes = [0u8; RECORD];
+    bytes[4] = compat;
+    bytes[312..560].copy_from_slice(&oracle.power_on(compat != 0));
+    bytes
 }
