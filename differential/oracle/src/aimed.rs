@@ -854,8 +854,7 @@ fn two_reasons(a: &mut Aim) {
 pub fn write_all(out: &mut dyn Write) {
     let mut a = Aim { oracle: Oracle::new(), out, seen: HashSet::new() };
     type Part = (&'static str, fn(&mut Aim));
-    let parts: [Part; 20] = [
-        ("power-on", power_on),
+    let parts: [Part; 19] = [
         ("write conflict", conflict),
         ("questions", questions),
         ("arbitration", arbitration),
@@ -876,6 +875,7 @@ pub fn write_all(out: &mut dyn Write) {
         ("refusal 7", unreached),
         ("two reasons", two_reasons),
     ];
+    power_on(&mut a);
     for (name, part) in parts {
         let before = a.seen.len();
         part(&mut a);
