@@ -57,6 +57,7 @@ module _ (d : VramDma) (r : Ready d) where
         carried = λ edge. (rw edge, rw (eq-eqb _ _ edge), block-falls d);
         ended = λ none. (rw (eq-eqb _ _ none), rw (eq-eqb _ _ none, and-false));
         going = λ some. (rw (ne-eqb _ _ some), rw (ne-eqb _ _ some, and-true));
+        rest = refl;
       }
 
   moves : Moved d (nextByteOf d .dma)

@@ -2,6 +2,7 @@
 use Prim.Native.Nat.{_+_, _-_, _%_, _<_}
 use mathlib.Core.Path.{_≡_}
 use mathlib.Core.Bool.{true, false}
+use Rattle.console.specs.Set.{withBlockRemaining, withBlockFromArm, withArbGrantedAhead, withArbParkWaitsForFetch, withArbIdleClaim, withDmaCursor, withDmaBlock, withDmaArb}
 use Rattle.console.specs.declared.vram_dma.TransferMode.the-variants as mode
 use Rattle.console.specs.declared.vram_dma.VramDma.{VramDma}
 use Rattle.transfer.specs.Pair.{movingOf, pairOf, nextByteOf, withQuota, drainOf}
@@ -37,6 +38,16 @@ pub record Moved (d e : VramDma) : Type 0 where
   -- "Left 0 makes the mode Idle and drops the idle claim"
   pub ended : e .cursor .remaining ≡ 0 → (e .cursor .mode ≡ mode.Idle) × (e .arb .«idle_claim» ≡ false)
   pub going : (e .cursor .remaining ≡ 0 → ⊥) → (e .cursor .mode ≡ d .cursor .mode) × (e .arb .«idle_claim» ≡ d .arb .«idle_claim»)
+  -- nothing else changes: beside the cursor, whose six fields stand above, the block's count and from-arm mark, granted, park
+  -- and idle claim. Block edge, taken, set-up cell, readiness, seize count and probation stay; so do pend and its marks, the
+  -- blinds, the tenure, what the arbiter noted of the last fall, and the contention with OAM DMA.
+  pub rest :
+      e ≡
+      withDmaCursor (e .cursor)
+      (withDmaBlock (withBlockRemaining (e .block .remaining) (withBlockFromArm (e .block .«from_arm») (d .block)))
+      (withDmaArb
+      (withArbGrantedAhead (e .arb .«granted_ahead»)
+      (withArbParkWaitsForFetch (e .arb .«park_waits_for_fetch») (withArbIdleClaim (e .arb .«idle_claim») (d .arb)))) d))
 
 pub record PairSteps : Type 0 where
   -- "At left 0 the engine never moves, whatever block stands and even with an escape owed"
