@@ -1,16 +1,16 @@
 -- The stages do what document 01 says of them (specs, `StageSteps`). Assumes nothing.
-use Prim.Native.Nat.{_-_, _/_, _<_, _≤_}
+use Prim.Native.Nat.{ℕ, _-_, _/_, _<_, _≤_}
 use native.Mathlib.Omega.{arith}
 use mathlib.Core.Path.{_≡_, refl, sym, _∙_}
 use mathlib.Core.Bool.{Bool, true, false, cond, not, _&&_, _||_, and-false, and-true, or-false, or-true}
 use lib.Dec.{ltb, eqb}
 use borrow.Author.Tests.{lt-ltb, le-ltb, le-leb, lt-leb, eq-eqb, ne-eqb}
 use Rattle.countdown.specs.Countdown.{armed, cleared, activeOf, stepped, saturatingInc}
-use Rattle.console.specs.Set.{withBlockRemaining, withBlockTaken, withBlockReadyIn, withBlockSetupCells, withBlockFromArm, withBlockArmReadyProbation, withBlockSeizeFalls, withArbPend, withArbPendFromArm, withArbPendAge, withArbPendGranted, withArbArmedThisFall, withArbGrantCounted, withArbGrantedAhead, withArbPrevCpuHalted, withArbHaltWakeBlind, withArbWakePendBlind, withArbWakeTenure, withArbIdleClaim, withDmaBlock, withDmaArb}
+use Rattle.console.specs.Set.{withBlockRemaining, withBlockStartEdge, withBlockTaken, withBlockReadyIn, withBlockSetupCells, withBlockFromArm, withBlockArmReadyProbation, withBlockSeizeFalls, withArbPend, withArbPendFromArm, withArbPendAge, withArbPendGranted, withArbArmedThisFall, withArbGrantCounted, withArbGrantedAhead, withArbPrevCpuHalted, withArbHaltWakeBlind, withArbWakePendBlind, withArbWakeTenure, withArbParkWaitsForFetch, withArbIdleClaim, withDmaBlock, withDmaArb}
 use Rattle.console.specs.declared.vram_dma.HaltArbiter.{HaltArbiter}
 use Rattle.console.specs.declared.vram_dma.VramDma.{VramDma}
 use Rattle.transfer.specs.Questions.{seizesBus}
-use Rattle.fall_edge.specs.Stages.{observedArb, observedOf, reverts, judgedBlock, ungrantedArb, probationOf, joinsHalt, droppedBlock, haltLatchArb, haltLatchOf, refilledOf, agedArb, pendedArb, haltPends, grants, grantedArb, gatedOf, blindsArb, blindsOf, commitArb, commitOf, consumes, tenureArb, tenureOf, pends, pendArb, pendOf, readyBlock, readinessOf, seizedBlock, seizureOf}
+use Rattle.fall_edge.specs.Stages.{observedArb, observedOf, reverts, judgedBlock, ungrantedArb, probationOf, joinsHalt, droppedBlock, haltLatchArb, haltLatchOf, refilledOf, agedArb, pendedArb, haltPends, grants, grantedArb, gatedOf, blindsArb, blindsOf, commitBlock, commitArb, commitOf, consumes, tenureArb, tenureOf, pends, pendArb, pendOf, readyBlock, readinessOf, seizedBlock, seizureOf}
 use Rattle.fall_edge.specs.StageSteps.{StageSteps}
 use Rattle.fall_edge.specs.declared.View.{View}
 
@@ -28,6 +28,16 @@ pend-rest :
 unfolding pendArb
 pend-rest true a = refl
 pend-rest false a = refl
+
+-- a choice by a test and by its contrary
+unless : (b : Bool) (x y : ℕ) → cond (not b) x y ≡ cond b y x
+unless true x y = refl
+unless false x y = refl
+
+none-of : (a b c : Bool) → not (a || (b || c)) ≡ (not a && not b && not c)
+none-of true b c = refl
+none-of false true c = refl
+none-of false false c = refl
 
 module _ (v : View) (d : VramDma) where
   taken-running : v .«in_hblank» ≡ false → v .«cpu_halted» ≡ false → observedOf v d .block .taken ≡ false
@@ -204,6 +214,43 @@ module _ (v : View) (d : VramDma) where
   unfolding blindsOf blindsArb
   blinds-only = refl
 
+  commits-block :
+      commitOf true v d .block ≡
+      withBlockRemaining 16
+      (withBlockStartEdge (v .«master_edge»)
+      (withBlockTaken true
+      (withBlockFromArm (d .arb .«pend_from_arm»)
+      (withBlockReadyIn (armed (cond (d .arb .«pend_granted» && not (v .«in_hblank») && not (v .«cpu_halted»)) 0 2))
+      (withBlockSetupCells
+      (armed (cond (d .arb .«pend_from_arm» || (d .arb .«pend_granted» && not (v .«in_hblank») && not (v .«cpu_halted»))) 0 1)) (d .block))))))
+  unfolding commitOf commitBlock
+  commits-block = refl
+
+  commits-arb :
+      commitOf true v d .arb ≡
+      withArbIdleClaim false
+      (withArbPendGranted false
+      (withArbGrantCounted false
+      (withArbGrantedAhead (cond (d .arb .«grant_counted») (d .arb .«granted_ahead») (saturatingInc (d .arb .«granted_ahead»)))
+      (withArbParkWaitsForFetch (not (d .arb .«pend_from_arm») && not (v .«cpu_halted») && not (v .«was_halted»))
+      (withArbWakeTenure (cond (d .arb .«pend_granted» && not (v .«in_hblank»)) (armed 36) (d .arb .«wake_tenure»)) (d .arb))))))
+  unfolding commitOf commitArb
+  commits-arb =
+      rw (
+        unless (d .arb .«grant_counted») (saturatingInc (d .arb .«granted_ahead»)) (d .arb .«granted_ahead»),
+        none-of (d .arb .«pend_from_arm») (v .«cpu_halted») (v .«was_halted»),
+      )
+
+  commits-only : (c : Bool) → commitOf c v d ≡ withDmaBlock (commitOf c v d .block) (withDmaArb (commitOf c v d .arb) d)
+  unfolding commitOf
+  commits-only c = refl
+
+  commits-not :
+      (commitOf false v d .block ≡ d .block) ×
+      (commitOf false v d .arb ≡ withArbPendGranted (d .arb .«pend_granted» && v .«cpu_halted») (d .arb))
+  unfolding commitOf commitBlock commitArb
+  commits-not = (refl, refl)
+
   tenure-not :
       (c : Bool) → (c && d .arb .«pend_granted» && not (v .«in_hblank»)) ≡ false →
       commitOf c v d .arb .«wake_tenure» ≡ d .arb .«wake_tenure»
@@ -326,6 +373,10 @@ stage-steps v d =
       blinds-over = blinds-over v d;
       blind6-first = blind6-first v d;
       blinds-only = blinds-only v d;
+      commits-block = commits-block v d;
+      commits-arb = commits-arb v d;
+      commits-only = commits-only v d;
+      commits-not = commits-not v d;
       tenure = tenure v d;
       tenure-not = tenure-not v d;
       consumes = consumes-entry v d;

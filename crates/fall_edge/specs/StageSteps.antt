@@ -5,7 +5,7 @@ use mathlib.Core.Path.{_≡_}
 use mathlib.Core.Bool.{Bool, true, false, cond, not, _&&_, _||_}
 use lib.Dec.{ltb, eqb}
 use Rattle.countdown.specs.Countdown.{armed, cleared, activeOf, stepped, saturatingInc}
-use Rattle.console.specs.Set.{withBlockRemaining, withBlockTaken, withBlockReadyIn, withBlockSetupCells, withBlockFromArm, withBlockArmReadyProbation, withBlockSeizeFalls, withArbPend, withArbPendFromArm, withArbPendAge, withArbPendGranted, withArbArmedThisFall, withArbGrantCounted, withArbGrantedAhead, withArbPrevCpuHalted, withArbHaltWakeBlind, withArbWakePendBlind, withArbWakeTenure, withArbIdleClaim, withDmaBlock, withDmaArb}
+use Rattle.console.specs.Set.{withBlockRemaining, withBlockStartEdge, withBlockTaken, withBlockReadyIn, withBlockSetupCells, withBlockFromArm, withBlockArmReadyProbation, withBlockSeizeFalls, withArbPend, withArbPendFromArm, withArbPendAge, withArbPendGranted, withArbArmedThisFall, withArbGrantCounted, withArbGrantedAhead, withArbPrevCpuHalted, withArbHaltWakeBlind, withArbWakePendBlind, withArbWakeTenure, withArbParkWaitsForFetch, withArbIdleClaim, withDmaBlock, withDmaArb}
 use Rattle.console.specs.declared.vram_dma.VramDma.{VramDma}
 use Rattle.transfer.specs.Questions.{seizesBus}
 use Rattle.fall_edge.specs.Stages.{observedOf, reverts, probationOf, joinsHalt, haltLatchOf, gatedOf, haltPends, grants, blindsOf, commitOf, tenureOf, pendOf, readinessOf, seizureOf}
@@ -98,6 +98,33 @@ pub record StageSteps (v : View) (d : VramDma) : Type 0 where
       withDmaBlock (withBlockTaken (blindsOf v d .block .taken) (d .block))
       (withDmaArb
       (withArbHaltWakeBlind (stepped (d .arb .«halt_wake_blind»)) (withArbWakePendBlind (stepped (d .arb .«wake_pend_blind»)) (d .arb))) d)
+  -- commit, as the Rust's branch has it: block 16 at this edge, the HBlank taken; ready in 0 where the pend is granted, outside
+  -- mode 0 and running, else in 2; a set-up cell unless so, or from an arm strobe, which marks the block
+  pub commits-block :
+      commitOf true v d .block ≡
+      withBlockRemaining 16
+      (withBlockStartEdge (v .«master_edge»)
+      (withBlockTaken true
+      (withBlockFromArm (d .arb .«pend_from_arm»)
+      (withBlockReadyIn (armed (cond (d .arb .«pend_granted» && not (v .«in_hblank») && not (v .«cpu_halted»)) 0 2))
+      (withBlockSetupCells
+      (armed (cond (d .arb .«pend_from_arm» || (d .arb .«pend_granted» && not (v .«in_hblank») && not (v .«cpu_halted»))) 0 1)) (d .block))))))
+  -- the idle claim and the marks of a grant go; one more is granted unless already counted; park waits for the fetch unless the
+  -- pend is an arm strobe's or the CPU halted, now or at the previous fall; tenure 36 where granted, outside mode 0
+  pub commits-arb :
+      commitOf true v d .arb ≡
+      withArbIdleClaim false
+      (withArbPendGranted false
+      (withArbGrantCounted false
+      (withArbGrantedAhead (cond (d .arb .«grant_counted») (d .arb .«granted_ahead») (saturatingInc (d .arb .«granted_ahead»)))
+      (withArbParkWaitsForFetch (not (d .arb .«pend_from_arm») && not (v .«cpu_halted») && not (v .«was_halted»))
+      (withArbWakeTenure (cond (d .arb .«pend_granted» && not (v .«in_hblank»)) (armed 36) (d .arb .«wake_tenure»)) (d .arb))))))
+  -- nothing else changes: cursor and contention with OAM DMA stay
+  pub commits-only : (c : Bool) → commitOf c v d ≡ withDmaBlock (commitOf c v d .block) (withDmaArb (commitOf c v d .arb) d)
+  -- without a commit a running CPU drops the pend's grant, and nothing else changes
+  pub commits-not :
+      (commitOf false v d .block ≡ d .block) ×
+      (commitOf false v d .arb ≡ withArbPendGranted (d .arb .«pend_granted» && v .«cpu_halted») (d .arb))
   -- "tenure of 36": a commit that is granted, outside mode 0, arms it
   pub tenure : d .arb .«pend_granted» ≡ true → v .«in_hblank» ≡ false → commitOf true v d .arb .«wake_tenure» ≡ armed 36
   pub tenure-not :
