@@ -20,7 +20,7 @@ use Rattle.fall_edge.specs.declared.View.{View}
 use Rattle.fall_edge.proofs.Steps.{Course, settled, gated, overflowed, served, course, committed-step}
 
 -- the HBlank is taken and no pend stands
-record Spent (d : VramDma) : Type 0 where
+pub record Spent (d : VramDma) : Type 0 where
   pub taken : d .block .taken ≡ true
   pub pend : d .arb .pend ≡ false
 
@@ -86,7 +86,7 @@ module _ (i : FallInput) (double : Bool) (d : VramDma) (r : Runs i) where
 kept-spent : {d e : VramDma} → Between d e → Spent d → Spent e
 kept-spent b k = record { taken = b .taken (k .taken); pend = b .pend (k .pend) }
 
-spent-none : {d : VramDma} {n : ℕ} → Period d n → Spent d → n ≡ 0
+pub spent-none : {d : VramDma} {n : ℕ} → Period d n → Spent d → n ≡ 0
 spent-none (over d) k = refl
 spent-none (fall i double d e n r b rest) k =
     let s : (fallOf i double d .claim .committed ≡ false) × Spent (fallOf i double d .dma) = spent-step i double d r (course i double d) k in

@@ -204,6 +204,27 @@ still d e =
       oam = d .oam;
     }
 
+-- at rest no countdown runs, and no halt is to unwind
+pub record AtRest (d : VramDma) : Type 0 where
+  pub setup : cleared ≡ d .block .«setup_cells»
+  pub ready : cleared ≡ d .block .«ready_in»
+  pub blind3 : cleared ≡ d .arb .«halt_wake_blind»
+  pub blind6 : cleared ≡ d .arb .«wake_pend_blind»
+  pub tenure : cleared ≡ d .arb .«wake_tenure»
+  pub awake : false ≡ d .arb .«prev_cpu_halted»
+
+pub at-rest : (d : VramDma) → stillOf d ≡ true → AtRest d
+at-rest d e =
+    let out = still d e in
+    record {
+      setup = ap (λ x. x .block .«setup_cells») out;
+      ready = ap (λ x. x .block .«ready_in») out;
+      blind3 = ap (λ x. x .arb .«halt_wake_blind») out;
+      blind6 = ap (λ x. x .arb .«wake_pend_blind») out;
+      tenure = ap (λ x. x .arb .«wake_tenure») out;
+      awake = ap (λ x. x .arb .«prev_cpu_halted») out;
+    }
+
 -- ---- the whole fall
 view : (i : FallInput) (double : Bool) (d : VramDma) → i .halted ≡ false → d .arb .«prev_cpu_halted» ≡ false → viewOf i double d ≡ runningView (eqb (i .mode) 0) (d .cursor .mode) double i d
 unfolding viewOf

@@ -2,22 +2,25 @@
 use Prim.Native.Nat.{ℕ, _+_, _<_, _≤_}
 use native.Mathlib.Omega.{arith}
 use mathlib.Core.Path.{_≡_, refl, sym, ap, _∙_}
-use mathlib.Core.Bool.{Bool, true, false, cond, not, _&&_, false≢true, true≢false}
+use mathlib.Core.Bool.{Bool, true, false, cond, not, _&&_, and-false, false≢true, true≢false}
 use lib.Dec.{leb, eqb}
-use borrow.Author.Tests.{lt-ltb, eqb-false, eqb-true, not-true}
-use Rattle.countdown.specs.Countdown.{saturatingInc}
+use borrow.Author.Tests.{lt-ltb, le-ltb, eqb-false, eqb-true, not-true}
+use Rattle.countdown.specs.Countdown.{activeOf, saturatingInc}
 use Rattle.console.specs.Set.{withCursorQuota}
 use Rattle.console.specs.declared.vram_dma.HaltArbiter.{HaltArbiter}
+use Rattle.console.specs.declared.vram_dma.HblankBlock.{HblankBlock}
 use Rattle.console.specs.declared.vram_dma.VramDma.{VramDma}
 use Rattle.transfer.specs.Pair.{movingOf, quotaOf}
+use Rattle.transfer.specs.Questions.{seizesBus}
 use Rattle.transfer.proofs.Steps.{pair-steps}
 use Rattle.fall_edge.specs.View.{viewOf, gates}
-use Rattle.fall_edge.specs.Stages.{inertOf, settledOf, observedArb, observedOf, ungrantedArb, probationOf, haltLatchArb, haltLatchOf, refilledOf, agedArb, pendedArb, grantedArb, gatedOf, blindsArb, blindsOf, commits, overflows, commitBlock, commitArb, commitOf, tenureArb, tenureOf, pendArb, pendOf, readyBlock, readinessOf, seizedBlock, seizureOf, claimOf}
+use Rattle.fall_edge.specs.Stages.{stillOf, inertOf, settledOf, observedArb, observedOf, judgedBlock, ungrantedArb, probationOf, droppedBlock, haltLatchArb, haltLatchOf, refilledOf, agedArb, pendedArb, grantedArb, gatedOf, blindsArb, blindsOf, commits, overflows, commitBlock, commitArb, commitOf, tenureArb, tenureOf, pendArb, pendOf, readyBlock, readinessOf, seizedBlock, seizureOf, claimOf}
 use Rattle.fall_edge.specs.Fall.{startedOf, servedOf, decidedOf, ranOf, fallOf, noClaim, fell, refusedOf}
 use Rattle.fall_edge.specs.Steps.{settles, before6, commitTest, FallSteps}
 use Rattle.fall_edge.specs.declared.FallInput.{FallInput}
 use Rattle.fall_edge.specs.declared.Fallen.{Fallen}
 use Rattle.fall_edge.specs.declared.View.{View}
+use Rattle.fall_edge.proofs.QuietFall.{AtRest, at-rest}
 
 first : (a b : Bool) → (a && b) ≡ true → a ≡ true
 first true b e = refl
@@ -48,8 +51,18 @@ unfolding haltLatchArb
 latch-falls h true a = refl
 latch-falls h false a = refl
 
+commit-seize : (c : Bool) (v : View) (a : HaltArbiter) (b : HblankBlock) → commitBlock c v a b .«seize_falls» ≡ b .«seize_falls»
+unfolding commitBlock
+commit-seize true v a b = refl
+commit-seize false v a b = refl
+
+drop-seize : (j : Bool) (b : HblankBlock) → droppedBlock j b .«seize_falls» ≡ b .«seize_falls»
+unfolding droppedBlock
+drop-seize true b = refl
+drop-seize false b = refl
+
 -- ---- steps 3 and 4
-started-cursor : (v : View) (d : VramDma) → startedOf v d .cursor ≡ d .cursor
+pub started-cursor : (v : View) (d : VramDma) → startedOf v d .cursor ≡ d .cursor
 unfolding startedOf haltLatchOf probationOf observedOf
 started-cursor v d = refl
 
@@ -58,6 +71,10 @@ started-falls :
     startedOf v d .arb .«halted_falls» ≡ cond (v .«cpu_halted») (saturatingInc (d .arb .«halted_falls»)) 0
 unfolding startedOf haltLatchOf probationOf ungrantedArb observedOf observedArb
 started-falls v d = latch-falls _ _ _
+
+started-seize : (v : View) (d : VramDma) → startedOf v d .block .«seize_falls» ≡ d .block .«seize_falls»
+unfolding startedOf haltLatchOf probationOf judgedBlock observedOf
+started-seize v d = drop-seize _ _
 
 -- ---- step 5
 gated-cursor : (v : View) (d : VramDma) → gatedOf v d .cursor ≡ withCursorQuota (gatedOf v d .cursor .quota) (d .cursor)
@@ -72,6 +89,10 @@ gated-falls : (v : View) (d : VramDma) → gatedOf v d .arb .«halted_falls» �
 unfolding gatedOf refilledOf grantedArb agedArb
 gated-falls v d = pended-falls _ _
 
+gated-seize : (v : View) (d : VramDma) → gatedOf v d .block .«seize_falls» ≡ d .block .«seize_falls»
+unfolding gatedOf refilledOf
+gated-seize v d = refl
+
 -- ---- step 6
 module _ (c : Bool) (v : View) (d : VramDma) where
   served-cursor : servedOf c v d .cursor ≡ withCursorQuota (servedOf c v d .cursor .quota) (d .cursor)
@@ -85,6 +106,11 @@ module _ (c : Bool) (v : View) (d : VramDma) where
   served-falls : servedOf c v d .arb .«halted_falls» ≡ d .arb .«halted_falls»
   unfolding servedOf seizureOf refilledOf readinessOf pendOf tenureOf tenureArb commitOf
   served-falls = pend-falls _ _ ∙ commit-falls c v (d .arb)
+
+  served-seize :
+      servedOf c v d .block .«seize_falls» ≡ cond (seizesBus (servedOf c v d)) (saturatingInc (d .block .«seize_falls»)) 0
+  unfolding servedOf seizureOf seizedBlock refilledOf readinessOf readyBlock pendOf tenureOf commitOf seizesBus
+  served-seize = ap (λ n. cond (seizesBus (servedOf c v d)) (saturatingInc n) 0) (commit-seize c v (d .arb) (d .block))
 
 -- ---- the blinds change nothing that the commit looks at
 blinds-commit : (v : View) (d : VramDma) → commits v (blindsOf v d) ≡ commits v d
@@ -106,6 +132,10 @@ blinds-cursor v d = refl
 blinds-falls : (v : View) (d : VramDma) → blindsOf v d .arb .«halted_falls» ≡ d .arb .«halted_falls»
 unfolding blindsOf blindsArb
 blinds-falls v d = refl
+
+blinds-seize : (v : View) (d : VramDma) → blindsOf v d .block .«seize_falls» ≡ d .block .«seize_falls»
+unfolding blindsOf
+blinds-seize v d = refl
 
 blinds-age : (v : View) (d : VramDma) → blindsOf v d .arb .«pend_age» ≡ d .arb .«pend_age»
 unfolding blindsOf blindsArb
@@ -229,6 +259,43 @@ module _ (i : FallInput) (double : Bool) (d : VramDma) where
   quota-step (overflowed p g o e) n = absurd (not-refused n e)
   quota-step (served p g o e) n = rw e (served-quota (commits v t) v t)
 
+  -- it is at rest too: it seizes no bus, and is not gated
+  pub resting : settles i d ≡ true → AtRest d
+  resting p =
+      at-rest d
+      (second (eqb (d .cursor .remaining) 0) (stillOf d)
+      (first (inertOf d) (not (i .halted)) (first (inertOf d && not (i .halted)) (not (i .stopped)) p)))
+
+  seizes-not : settles i d ≡ true → seizesBus (settledOf (eqb (i .mode) 0) d) ≡ false
+  unfolding settledOf seizesBus
+  seizes-not p =
+      let none : activeOf (d .block .«setup_cells») ≡ false = ap activeOf (sym (resting p .setup)) in
+      rw (none, le-ltb 0 (d .cursor .remaining) (omega (arith, nothing-left p)), and-false, and-false)
+
+  pub ungates : settles i d ≡ true → gates i ≡ false
+  ungates p =
+      let stopped : i .stopped ≡ false = not-true (i .stopped) (second (inertOf d && not (i .halted)) (not (i .stopped)) p) in
+      rw (runs p, stopped)
+
+  seize-count :
+      Course → fallOf i double d .refused ≡ false → gates i ≡ false →
+      fallOf i double d .dma .block .«seize_falls» ≡
+      cond (seizesBus (fallOf i double d .dma)) (saturatingInc (d .block .«seize_falls»)) 0
+  unfolding settledOf
+  seize-count (settled p e) n g = rw (e, seizes-not p)
+  seize-count (gated p h e) n g = absurd (true≢false (sym h ∙ g))
+  seize-count (overflowed p h o e) n g = absurd (not-refused n e)
+  seize-count (served p h o e) n g =
+      rw e
+      (served-seize (commits v t) v t
+      ∙ ap (λ n. cond (seizesBus (servedOf (commits v t) v t)) (saturatingInc n) 0) (blinds-seize v s ∙ started-seize v d))
+
+  seize-rests : Course → gates i ≡ true → fallOf i double d .dma .block .«seize_falls» ≡ d .block .«seize_falls»
+  seize-rests (settled p e) g = absurd (true≢false (sym g ∙ ungates p))
+  seize-rests (gated p h e) g = rw e (gated-seize v s ∙ started-seize v d)
+  seize-rests (overflowed p h o e) g = absurd (true≢false (sym g ∙ h))
+  seize-rests (served p h o e) g = absurd (true≢false (sym g ∙ h))
+
   falls-step :
       Course → fallOf i double d .refused ≡ false →
       fallOf i double d .dma .arb .«halted_falls» ≡ cond (i .halted) (saturatingInc (d .arb .«halted_falls»)) 0
@@ -311,6 +378,8 @@ fall-steps i double d =
       refused-keeps = refused-keeps i double d (course i double d);
       keeps-cursor = keeps-cursor i double d (course i double d);
       quota = quota-step i double d (course i double d);
+      seize-count = seize-count i double d (course i double d);
+      seize-rests = seize-rests i double d (course i double d);
       halted-falls = falls-step i double d (course i double d);
       committed = λ n c. committed-step i double d c;
       counted-already = λ n c. counted-already i double d c;

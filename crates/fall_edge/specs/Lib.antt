@@ -6,3 +6,4 @@ pub mod Steps
 pub mod Once
 pub mod StageSteps
 pub mod Refills
+pub mod Windows

@@ -7,6 +7,7 @@ use Rattle.countdown.specs.Countdown.{saturatingInc}
 use Rattle.console.specs.Set.{withCursorQuota}
 use Rattle.console.specs.declared.vram_dma.VramDma.{VramDma}
 use Rattle.transfer.specs.Pair.{movingOf, quotaOf}
+use Rattle.transfer.specs.Questions.{seizesBus}
 use Rattle.fall_edge.specs.View.{viewOf, gates}
 use Rattle.fall_edge.specs.Stages.{inertOf, settledOf, commits}
 use Rattle.fall_edge.specs.Fall.{startedOf, noClaim, fell, fallOf}
@@ -46,6 +47,12 @@ pub record FallSteps (i : FallInput) (double : Bool) (d : VramDma) : Type 0 wher
   pub keeps-cursor : fallOf i double d .dma .cursor ≡ withCursorQuota (fallOf i double d .dma .cursor .quota) (d .cursor)
   -- "Quota is 0 if not moving, else 2 at single speed, 1 at double"
   pub quota : fallOf i double d .refused ≡ false → fallOf i double d .dma .cursor .quota ≡ quotaOf (movingOf (fallOf i double d .dma)) double
+  -- "seize count": an ungated fall counts on the engine that it leaves, after readiness; a gated one leaves the count
+  pub seize-count :
+      fallOf i double d .refused ≡ false → gates i ≡ false →
+      fallOf i double d .dma .block .«seize_falls» ≡
+      cond (seizesBus (fallOf i double d .dma)) (saturatingInc (d .block .«seize_falls»)) 0
+  pub seize-rests : gates i ≡ true → fallOf i double d .dma .block .«seize_falls» ≡ d .block .«seize_falls»
   -- "Halted falls are counted up to 255, 0 when running"
   pub halted-falls :
       fallOf i double d .refused ≡ false →
