@@ -43,6 +43,11 @@ gathered false false false true c false = refl
 gathered false false false false c true = refl
 gathered false false false false c false = refl
 
+-- the stages after the new pend leave it
+served-pend : (c : Bool) (v : View) (d : VramDma) → servedOf c v d .arb .pend ≡ pends c v (tenureOf v (commitOf c v d))
+unfolding servedOf seizureOf refilledOf readinessOf
+served-pend c v d = stage-steps v (tenureOf v (commitOf c v d)) .new-pend c
+
 -- the stages after the tenure leave taken
 served-taken : (c : Bool) (v : View) (d : VramDma) → servedOf c v d .block .taken ≡ tenureOf v (commitOf c v d) .block .taken
 unfolding servedOf seizureOf seizedBlock refilledOf readinessOf readyBlock pendOf
@@ -52,11 +57,6 @@ served-taken c v d = refl
 commit-taken : (v : View) (d : VramDma) → tenureOf v (commitOf true v d) .block .taken ≡ true
 unfolding tenureOf commitOf commitBlock
 commit-taken v d = refl
-
--- the stages after the new pend leave it
-served-pend : (c : Bool) (v : View) (d : VramDma) → servedOf c v d .arb .pend ≡ pends c v (tenureOf v (commitOf c v d))
-unfolding servedOf seizureOf refilledOf readinessOf
-served-pend c v d = stage-steps v (tenureOf v (commitOf c v d)) .new-pend c
 
 module _ (v : View) (d : VramDma) where
   -- without a commit

@@ -236,10 +236,15 @@ module _ (v : View) (d : VramDma) where
       (withArbWakeTenure (cond (d .arb .«pend_granted» && not (v .«in_hblank»)) (armed 36) (d .arb .«wake_tenure»)) (d .arb))))))
   unfolding commitOf commitArb
   commits-arb =
-      rw (
-        unless (d .arb .«grant_counted») (saturatingInc (d .arb .«granted_ahead»)) (d .arb .«granted_ahead»),
-        none-of (d .arb .«pend_from_arm») (v .«cpu_halted») (v .«was_halted»),
-      )
+      let count = unless (d .arb .«grant_counted») (saturatingInc (d .arb .«granted_ahead»)) (d .arb .«granted_ahead») in
+      let park = none-of (d .arb .«pend_from_arm») (v .«cpu_halted») (v .«was_halted») in
+      λ k.
+      withArbIdleClaim false
+      (withArbPendGranted false
+      (withArbGrantCounted false
+      (withArbGrantedAhead (count k)
+      (withArbParkWaitsForFetch (park k)
+      (withArbWakeTenure (cond (d .arb .«pend_granted» && not (v .«in_hblank»)) (armed 36) (d .arb .«wake_tenure»)) (d .arb))))))
 
   commits-only : (c : Bool) → commitOf c v d ≡ withDmaBlock (commitOf c v d .block) (withDmaArb (commitOf c v d .arb) d)
   unfolding commitOf

@@ -85,6 +85,9 @@ unfolding pendArb
 pend-timers true a = record { blind3 = refl; blind6 = refl; tenure = refl }
 pend-timers false a = record { blind3 = refl; blind6 = refl; tenure = refl }
 
+pend-tenure : (p : Bool) (a : HaltArbiter) → pendArb p a .«wake_tenure» ≡ a .«wake_tenure»
+pend-tenure p a = pend-timers p a .tenure
+
 dropped-ready : (j : Bool) (b : HblankBlock) → droppedBlock j b .«ready_in» ≡ cond j cleared (b .«ready_in»)
 unfolding droppedBlock
 dropped-ready true b = refl
@@ -170,7 +173,7 @@ module _ (c : Bool) (v : View) (d : VramDma) where
       servedOf c v d .arb .«wake_tenure» ≡
       stepped (cond (c && d .arb .«pend_granted» && not (v .«in_hblank»)) (armed 36) (d .arb .«wake_tenure»))
   unfolding servedOf seizureOf refilledOf readinessOf pendOf tenureOf tenureArb commitOf
-  served-tenure = pend-timers _ _ .tenure ∙ ap stepped (commit-tenure c v (d .arb))
+  served-tenure = rw (pend-tenure, commit-tenure)
 
   served-ready :
       servedOf c v d .block .«ready_in» ≡

@@ -110,7 +110,7 @@ module _ (c : Bool) (v : View) (d : VramDma) where
   served-seize :
       servedOf c v d .block .«seize_falls» ≡ cond (seizesBus (servedOf c v d)) (saturatingInc (d .block .«seize_falls»)) 0
   unfolding servedOf seizureOf seizedBlock refilledOf readinessOf readyBlock pendOf tenureOf commitOf seizesBus
-  served-seize = ap (λ n. cond (seizesBus (servedOf c v d)) (saturatingInc n) 0) (commit-seize c v (d .arb) (d .block))
+  served-seize = ap (λ n. cond (seizesBus (servedOf c v d)) (saturatingInc n) 0) (commit-seize c v _ _)
 
 -- ---- the blinds change nothing that the commit looks at
 blinds-commit : (v : View) (d : VramDma) → commits v (blindsOf v d) ≡ commits v d
@@ -151,7 +151,7 @@ module _ (v : View) (d : VramDma) where
   commit-block = (refl, refl, refl)
 
   commit-pend : servedOf true v d .arb .pend ≡ false
-  unfolding servedOf seizureOf refilledOf readinessOf pendOf pendArb
+  unfolding servedOf seizureOf refilledOf readinessOf pendOf pendArb tenureOf tenureArb
   commit-pend = refl
 
   commit-granted :
