@@ -34,7 +34,7 @@ unless : (b : Bool) (x y : ℕ) → cond (not b) x y ≡ cond b y x
 unless true x y = refl
 unless false x y = refl
 
-none-of : (a b c : Bool) → not (a || (b || c)) ≡ (not a && not b && not c)
+pub none-of : (a b c : Bool) → not (a || (b || c)) ≡ (not a && not b && not c)
 none-of true b c = refl
 none-of false true c = refl
 none-of false false c = refl

@@ -2,10 +2,10 @@
 use Prim.Native.Nat.{ℕ, _+_, _<_, _≤_}
 use native.Mathlib.Omega.{arith}
 use mathlib.Core.Path.{_≡_, refl, sym, ap, _∙_}
-use mathlib.Core.Bool.{Bool, true, false, cond, not, _&&_, and-false, false≢true, true≢false}
+use mathlib.Core.Bool.{Bool, true, false, cond, not, _&&_, _||_, and-false, false≢true, true≢false}
 use lib.Dec.{leb, eqb}
 use borrow.Author.Tests.{lt-ltb, le-ltb, eqb-false, eqb-true, not-true}
-use Rattle.countdown.specs.Countdown.{activeOf, saturatingInc}
+use Rattle.countdown.specs.Countdown.{armed, activeOf, saturatingInc}
 use Rattle.console.specs.Set.{withCursorQuota}
 use Rattle.console.specs.declared.vram_dma.HaltArbiter.{HaltArbiter}
 use Rattle.console.specs.declared.vram_dma.HblankBlock.{HblankBlock}
@@ -21,6 +21,7 @@ use Rattle.fall_edge.specs.declared.FallInput.{FallInput}
 use Rattle.fall_edge.specs.declared.Fallen.{Fallen}
 use Rattle.fall_edge.specs.declared.View.{View}
 use Rattle.fall_edge.proofs.QuietFall.{AtRest, at-rest}
+use Rattle.fall_edge.proofs.StageSteps.{none-of}
 
 first : (a b : Bool) → (a && b) ≡ true → a ≡ true
 first true b e = refl
@@ -153,6 +154,17 @@ module _ (v : View) (d : VramDma) where
   commit-pend : servedOf true v d .arb .pend ≡ false
   unfolding servedOf seizureOf refilledOf readinessOf pendOf pendArb tenureOf tenureArb
   commit-pend = refl
+
+  commit-marks :
+      (servedOf true v d .block .«setup_cells» ≡
+      armed (cond (d .arb .«pend_from_arm» || (d .arb .«pend_granted» && not (v .«in_hblank») && not (v .«cpu_halted»))) 0 1)) ×
+      (servedOf true v d .block .«from_arm» ≡ d .arb .«pend_from_arm») ×
+      (servedOf true v d .arb .«park_waits_for_fetch» ≡
+      (not (d .arb .«pend_from_arm») && not (v .«cpu_halted») && not (v .«was_halted»))) ×
+      (servedOf true v d .arb .«pend_granted» ≡ false) ×
+      (servedOf true v d .arb .«grant_counted» ≡ false)
+  unfolding servedOf seizureOf seizedBlock refilledOf readinessOf readyBlock pendOf pendArb tenureOf tenureArb commitOf commitBlock commitArb
+  commit-marks = (refl, refl, none-of (d .arb .«pend_from_arm») (v .«cpu_halted») (v .«was_halted»), refl, refl)
 
   commit-granted :
       servedOf true v d .arb .«granted_ahead» ≡
@@ -330,6 +342,19 @@ module _ (i : FallInput) (double : Bool) (d : VramDma) where
       let k : Commit = commit course c in
       rw (k .2) (commit-block v t .0, commit-block v t .1, commit-block v t .2, commit-pend v t)
 
+  committed-marks :
+      fallOf i double d .claim .committed ≡ true →
+      (fallOf i double d .dma .block .«setup_cells» ≡
+      armed
+      (cond (s .arb .«pend_from_arm» || (s .arb .«pend_granted» && not (eqb (i .mode) 0) && not (i .halted))) 0 1)) ×
+      (fallOf i double d .dma .block .«from_arm» ≡ s .arb .«pend_from_arm») ×
+      (fallOf i double d .dma .arb .«park_waits_for_fetch» ≡
+      (not (s .arb .«pend_from_arm») && not (i .halted) && not (d .arb .«prev_cpu_halted»))) ×
+      (fallOf i double d .dma .arb .«pend_granted» ≡ false) ×
+      (fallOf i double d .dma .arb .«grant_counted» ≡ false)
+  unfolding Commit viewOf blindsOf blindsArb
+  committed-marks c = let k : Commit = commit course c in rw (k .2) (commit-marks v t)
+
   counted-already :
       fallOf i double d .claim .committed ≡ true → s .arb .«grant_counted» ≡ true →
       fallOf i double d .dma .arb .«granted_ahead» ≡ s .arb .«granted_ahead»
@@ -382,6 +407,7 @@ fall-steps i double d =
       seize-rests = seize-rests i double d (course i double d);
       halted-falls = falls-step i double d (course i double d);
       committed = λ n c. committed-step i double d c;
+      committed-marks = λ n c. committed-marks i double d c;
       counted-already = λ n c. counted-already i double d c;
       raises = λ n c. raises i double d c;
       standing = standing-step i double d (course i double d);

@@ -1,9 +1,9 @@
 -- What is shown of the fall, in document 01's words (section 2). A fall is accepted where it is not refused with 14.
 use Prim.Native.Nat.{_+_, _≤_}
 use mathlib.Core.Path.{_≡_}
-use mathlib.Core.Bool.{Bool, true, false, cond, not, _&&_}
+use mathlib.Core.Bool.{Bool, true, false, cond, not, _&&_, _||_}
 use lib.Dec.{leb, eqb}
-use Rattle.countdown.specs.Countdown.{saturatingInc}
+use Rattle.countdown.specs.Countdown.{armed, saturatingInc}
 use Rattle.console.specs.Set.{withCursorQuota}
 use Rattle.console.specs.declared.vram_dma.VramDma.{VramDma}
 use Rattle.transfer.specs.Pair.{movingOf, quotaOf}
@@ -64,6 +64,20 @@ pub record FallSteps (i : FallInput) (double : Bool) (d : VramDma) : Type 0 wher
       (fallOf i double d .dma .block .taken ≡ true) ×
       (fallOf i double d .dma .block .«start_edge» ≡ i .«master_edge») ×
       (fallOf i double d .dma .arb .pend ≡ false)
+  -- it charges a set-up cell unless an arm strobe or the halt's grant did; the block is an arm strobe's where the pend was; park
+  -- waits for the fetch where it was not and the CPU ran, now and at the previous fall; the marks of the grant go
+  pub committed-marks :
+      fallOf i double d .refused ≡ false → fallOf i double d .claim .committed ≡ true →
+      (fallOf i double d .dma .block .«setup_cells» ≡
+      armed
+      (cond
+      (before6 i double d .arb .«pend_from_arm»
+      || (before6 i double d .arb .«pend_granted» && not (eqb (i .mode) 0) && not (i .halted))) 0 1)) ×
+      (fallOf i double d .dma .block .«from_arm» ≡ before6 i double d .arb .«pend_from_arm») ×
+      (fallOf i double d .dma .arb .«park_waits_for_fetch» ≡
+      (not (before6 i double d .arb .«pend_from_arm») && not (i .halted) && not (d .arb .«prev_cpu_halted»))) ×
+      (fallOf i double d .dma .arb .«pend_granted» ≡ false) ×
+      (fallOf i double d .dma .arb .«grant_counted» ≡ false)
   pub counted-already :
       fallOf i double d .refused ≡ false → fallOf i double d .claim .committed ≡ true →
       before6 i double d .arb .«grant_counted» ≡ true →

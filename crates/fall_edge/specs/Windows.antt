@@ -91,7 +91,7 @@ pub record SteppedOnce (w : Window) : Type 0 where
 -- arms or clears it. Each fall is at its own speed. Falls that are gated may come between, and anything else that leaves the
 -- countdown as it is: other calls (`KeepsWindows` below), and a refused fall, which changes nothing.
 pub data Since (w : Window) : ℕ → VramDma → Type 0 where
-  -- armed between two falls, by another call
+  -- armed between two falls, by another call: an upward switch, or the latch of a block with the LCD off
   by-call : (d : VramDma) → w .countdown d ≡ armed (w .ticks) → Since w 0 d
   -- armed by a fall
   by-fall :
