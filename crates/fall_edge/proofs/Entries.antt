@@ -4,18 +4,19 @@ use mathlib.Core.Bool.{Bool, true, false, cond, not, _&&_, _||_, and-false, fals
 use lib.Dec.{ltb, eqb}
 use Rattle.countdown.specs.Countdown.{armed, activeOf}
 use Rattle.console.specs.Modes.{isHBlank}
+use Rattle.console.specs.declared.vram_dma.HaltArbiter.{HaltArbiter}
 use Rattle.console.specs.declared.vram_dma.VramDma.{VramDma}
 use Rattle.fall_edge.specs.View.{viewOf, gates}
-use Rattle.fall_edge.specs.Stages.{refilledOf, blindsArb, blindsOf, commits, commitBlock, commitArb, commitOf, tenureOf, pends, pendOf, readyBlock, readinessOf, seizedBlock, seizureOf}
-use Rattle.fall_edge.specs.Fall.{servedOf, fallOf}
+use Rattle.fall_edge.specs.Stages.{observedArb, observedOf, ungrantedArb, probationOf, haltLatchArb, haltLatchOf, refilledOf, blindsArb, blindsOf, commits, commitBlock, commitArb, commitOf, tenureArb, tenureOf, pends, pendArb, pendOf, readyBlock, readinessOf, seizedBlock, seizureOf}
+use Rattle.fall_edge.specs.Fall.{startedOf, servedOf, fallOf}
 use Rattle.fall_edge.specs.Steps.{settles, reaches6}
-use Rattle.fall_edge.specs.Windows.{passes, Entries}
+use Rattle.fall_edge.specs.Windows.{atStep, tenureOf36, passes, Entries}
 use Rattle.fall_edge.specs.declared.FallInput.{FallInput}
 use Rattle.fall_edge.specs.declared.Fallen.{Fallen}
 use Rattle.fall_edge.specs.declared.View.{View}
 use Rattle.fall_edge.proofs.Steps.{Course, settled, gated, overflowed, served, course, v, s, t, started-cursor}
 use Rattle.fall_edge.proofs.StageSteps.{stage-steps}
-use Rattle.fall_edge.proofs.SteppedOnce.{committed, started-blind3, started-blind6, started-tenure}
+use Rattle.fall_edge.proofs.SteppedOnce.{commit-tenure, committed, started-blind3, started-blind6, started-tenure}
 
 -- an entry in a window, of the engine after step 4; c: this fall commits
 abbrev inWindow : Bool → View → VramDma → Bool
@@ -96,7 +97,37 @@ module _ (v : View) (d : VramDma) where
       ∙ (pends-after
       ∙ ap (λ x. v .armed && v .«in_hblank» && not x && ltb 0 (d .cursor .remaining) && eqb (d .block .remaining) 0) taken-after)
 
--- the same of the whole fall
+-- ---- the idle claim
+latch-claim : (h j : Bool) (a : HaltArbiter) → haltLatchArb h j a .«idle_claim» ≡ a .«idle_claim»
+unfolding haltLatchArb
+latch-claim h true a = refl
+latch-claim h false a = refl
+
+pend-claim : (p : Bool) (a : HaltArbiter) → pendArb p a .«idle_claim» ≡ a .«idle_claim»
+unfolding pendArb
+pend-claim true a = refl
+pend-claim false a = refl
+
+commit-claim : (c : Bool) (v : View) (a : HaltArbiter) → commitArb c v a .«idle_claim» ≡ (not c && a .«idle_claim»)
+unfolding commitArb
+commit-claim true v a = refl
+commit-claim false v a = refl
+
+started-claim : (v : View) (d : VramDma) → startedOf v d .arb .«idle_claim» ≡ d .arb .«idle_claim»
+unfolding startedOf haltLatchOf probationOf ungrantedArb observedOf observedArb
+started-claim v d = latch-claim _ _ _
+
+served-claim :
+    (c : Bool) (v : View) (d : VramDma) →
+    servedOf c v d .arb .«idle_claim» ≡
+    ((not c && d .arb .«idle_claim»)
+    || (activeOf (cond (c && d .arb .«pend_granted» && not (v .«in_hblank»)) (armed 36) (d .arb .«wake_tenure»))
+    && v .«entry_edge»
+    && ltb 0 (d .cursor .remaining)))
+unfolding servedOf seizureOf refilledOf readinessOf pendOf tenureOf tenureArb commitOf
+served-claim c v d = rw (pend-claim, commit-claim, commit-tenure)
+
+-- ---- the same of the whole fall
 module _ (i : FallInput) (double : Bool) (d : VramDma) where
   reached : settles i d ≡ true → reaches6 i d ≡ true → ⊥
   reached p r = false≢true (sym (rw p) ∙ r)
@@ -178,5 +209,22 @@ module _ (i : FallInput) (double : Bool) (d : VramDma) where
           && eqb (s i double d .block .remaining) 0)
           (sym q))
 
+  entry-claim :
+      Course i double d → fallOf i double d .refused ≡ false → reaches6 i d ≡ true →
+      fallOf i double d .dma .arb .«idle_claim» ≡
+      ((not (fallOf i double d .claim .committed) && d .arb .«idle_claim»)
+      || (activeOf (atStep tenureOf36 i double d)
+      && (eqb (i .mode) 0 && not (d .arb .«prev_view_hblank»))
+      && ltb 0 (d .cursor .remaining)))
+  unfolding viewOf blindsOf blindsArb
+  entry-claim (settled p e) n r = absurd (reached p r)
+  entry-claim (gated p g e) n r = absurd (ungated-6 g r)
+  entry-claim (overflowed p g o e) n r = absurd (true≢false (sym (ap (λ (f : Fallen). f .refused) e) ∙ n))
+  entry-claim (served p g o e) n r =
+      rw (committed e)
+      (ap (λ (f : Fallen). f .dma .arb .«idle_claim») e
+      ∙ (served-claim (commits (v i double d) (t i double d)) (v i double d) (t i double d)
+      ∙ rw (started-claim (v i double d) d, started-tenure (v i double d) d, started-cursor (v i double d) d)))
+
 pub entries : (i : FallInput) (double : Bool) (d : VramDma) → Entries i double d
-entries i double d = record { taken = entry-taken i double d (course i double d); pend = entry-pend i double d (course i double d) }
+entries i double d = record { taken = entry-taken i double d (course i double d); pend = entry-pend i double d (course i double d); claim = entry-claim i double d (course i double d) }

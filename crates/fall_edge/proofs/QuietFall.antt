@@ -1,9 +1,8 @@
 -- The shorter way gives what the definition gives (specs, `Quiet`). Assumes nothing.
-use Prim.Native.Nat.{ℕ, _-_}
 use native.Mathlib.Omega.{arith}
 use mathlib.Core.Path.{_≡_, refl, sym, ap, _∙_}
 use mathlib.Core.Bool.{Bool, true, false, cond, not, _&&_, _||_, and-true, or-false, false≢true}
-use lib.Dec.{ltb, eqb}
+use lib.Dec.{eqb}
 use borrow.Author.Tests.{eqb-true, ltb-false, not-true}
 use Rattle.countdown.specs.Countdown.{cleared, activeOf}
 use Rattle.countdown.specs.declared.Countdown.{Countdown}

@@ -3,7 +3,7 @@ use Prim.Native.Nat.{ℕ, _-_, _/_, _<_, _≤_}
 use native.Mathlib.Omega.{arith}
 use mathlib.Core.Path.{_≡_, refl, sym, _∙_}
 use mathlib.Core.Bool.{Bool, true, false, cond, not, _&&_, _||_, and-false, and-true, or-false, or-true}
-use lib.Dec.{ltb, eqb}
+use lib.Dec.{eqb}
 use borrow.Author.Tests.{lt-ltb, le-ltb, le-leb, lt-leb, eq-eqb, ne-eqb}
 use Rattle.countdown.specs.Countdown.{armed, cleared, activeOf, stepped, saturatingInc}
 use Rattle.console.specs.Set.{withBlockRemaining, withBlockStartEdge, withBlockTaken, withBlockReadyIn, withBlockSetupCells, withBlockFromArm, withBlockArmReadyProbation, withBlockSeizeFalls, withArbPend, withArbPendFromArm, withArbPendAge, withArbPendGranted, withArbArmedThisFall, withArbGrantCounted, withArbGrantedAhead, withArbPrevCpuHalted, withArbHaltWakeBlind, withArbWakePendBlind, withArbWakeTenure, withArbParkWaitsForFetch, withArbIdleClaim, withDmaBlock, withDmaArb}

@@ -8,25 +8,20 @@ use borrow.Author.Tests.{lt-ltb, le-ltb, eq-eqb, ne-eqb}
 use Rattle.countdown.specs.Countdown.{armed, cleared, activeOf}
 use Rattle.countdown.specs.declared.Countdown.{Countdown}
 use Rattle.console.specs.Modes.{isGeneral, isHBlank}
-use Rattle.console.specs.declared.vram_dma.HaltArbiter.{HaltArbiter}
-use Rattle.console.specs.declared.vram_dma.TransferCursor.{TransferCursor}
 use Rattle.console.specs.declared.vram_dma.VramDma.{VramDma}
 use Rattle.transfer.specs.Latch.{latchedBlock, latchedOf, latchesDark, lcdDisabledOf, retiredOf}
 use Rattle.transfer.specs.Pair.{movingOf, blockAfter, arbAfter, advancedOf, pairOf, nextByteOf, withQuota, drainOf}
 use Rattle.transfer.specs.declared.pair.NextAnswer.the-variants.{Pair, None}
 use Rattle.transfer.specs.declared.pair.NextByte.{NextByte}
-use Rattle.fall_edge.specs.View.{viewOf, gates}
-use Rattle.fall_edge.specs.Stages.{refilledOf, blindsArb, blindsOf, commits, commitArb, commitOf, tenureArb, tenureOf, pendArb, pendOf, readinessOf, seizureOf}
-use Rattle.fall_edge.specs.Fall.{servedOf, fallOf}
+use Rattle.fall_edge.specs.View.{gates}
+use Rattle.fall_edge.specs.Fall.{fallOf}
 use Rattle.fall_edge.specs.Steps.{settles, reaches6}
 use Rattle.fall_edge.specs.Windows.{atStep, blindOf3, blindOf6, tenureOf36, readiness, Since, by-call, Nth, Enters, passes, PassedOver, KeepsWindows, Windows}
 use Rattle.fall_edge.specs.declared.FallInput.{FallInput}
-use Rattle.fall_edge.specs.declared.Fallen.{Fallen}
-use Rattle.fall_edge.specs.declared.View.{View}
 use Rattle.fall_edge.proofs.Once.{spent-none}
-use Rattle.fall_edge.proofs.Steps.{Course, settled, gated, overflowed, served, course, v, s, t, started-cursor, resting, fall-steps}
+use Rattle.fall_edge.proofs.Steps.{s, t, resting, fall-steps}
 use Rattle.fall_edge.proofs.OneLemma.{lasts, one-lemma}
-use Rattle.fall_edge.proofs.SteppedOnce.{blind3-steps, blind6-steps, commit-tenure, committed, left-false, ready-steps, started-tenure, tenure-steps}
+use Rattle.fall_edge.proofs.SteppedOnce.{blind3-steps, blind6-steps, committed, left-false, ready-steps, tenure-steps}
 use Rattle.fall_edge.proofs.Entries.{entries}
 
 -- ---- an entry in a window is passed over
@@ -146,46 +141,16 @@ blind6-first i double d n p q =
     rw (p, q, eq-eqb (d .arb .«wake_pend_blind» .0) 6 (lasts blindOf6 blind6-steps .finds 0 i double d n), and-false, and-false)
 
 -- ---- an entry in the tenure claims
-pend-claim : (p : Bool) (a : HaltArbiter) → pendArb p a .«idle_claim» ≡ a .«idle_claim»
-unfolding pendArb
-pend-claim true a = refl
-pend-claim false a = refl
-
-served-claim :
-    (c : Bool) (v : View) (d : VramDma) →
-    servedOf c v d .arb .«idle_claim» ≡
-    (commitArb c v (d .arb) .«idle_claim»
-    || (activeOf (commitArb c v (d .arb) .«wake_tenure») && v .«entry_edge» && ltb 0 (d .cursor .remaining)))
-unfolding servedOf seizureOf refilledOf readinessOf pendOf tenureOf tenureArb commitOf
-served-claim c v d = pend-claim _ _
-
 all-three : (x a b c : Bool) → a ≡ true → b ≡ true → c ≡ true → (x || (a && b && c)) ≡ true
 all-three x a b c p q r = rw (p, q, r, or-true)
 
-module _ (i : FallInput) (double : Bool) (d : VramDma) (h : Enters i double d) (some : 0 < d .cursor .remaining) where
-  claims :
-      Course i double d → activeOf (atStep tenureOf36 i double d) ≡ true → fallOf i double d .dma .arb .«idle_claim» ≡ true
-  unfolding viewOf blindsOf blindsArb
-  claims (settled p e) q =
-      let c : fallOf i double d .claim .committed ≡ false = committed e in
-      absurd
-      (false≢true
-      (sym (idle (tenureOf36 .arms i double d) 36 (d .arb .«wake_tenure») (rw c) (resting i double d p .tenure)) ∙ q))
-  claims (gated p g e) q = absurd (true≢false (sym g ∙ h .ungated))
-  claims (overflowed p g o e) q = absurd (true≢false (sym (ap (λ (f : Fallen). f .refused) e) ∙ h .accepted))
-  claims (served p g o e) q =
-      let c = commits (v i double d) (t i double d) in
-      let k : fallOf i double d .claim .committed ≡ c = committed e in
-      let active : activeOf (commitArb c (v i double d) (t i double d .arb) .«wake_tenure») ≡ true =
-      ap activeOf
-      (commit-tenure c (v i double d) (t i double d .arb)
-      ∙ (ap (λ x. cond (c && s i double d .arb .«pend_granted» && not (eqb (i .mode) 0)) (armed 36) x) (started-tenure (v i double d) d)
-      ∙ ap (λ x. cond (x && s i double d .arb .«pend_granted» && not (eqb (i .mode) 0)) (armed 36) (d .arb .«wake_tenure»)) (sym k)))
-      ∙ q in
-      ap (λ (f : Fallen). f .dma .arb .«idle_claim») e
-      ∙ (served-claim c (v i double d) (t i double d)
-      ∙ all-three (commitArb c (v i double d) (t i double d .arb) .«idle_claim») _ (eqb (i .mode) 0 && not (d .arb .«prev_view_hblank»)) _ active
-      (entered i double d h) (ap (λ (x : TransferCursor). ltb 0 (x .remaining)) (started-cursor (v i double d) d) ∙ lt-ltb 0 (d .cursor .remaining) some))
+claims :
+    (i : FallInput) (double : Bool) (d : VramDma) → Enters i double d → 0 < d .cursor .remaining → a36 i double d ≡ true →
+    fallOf i double d .dma .arb .«idle_claim» ≡ true
+claims i double d h some q =
+    entries i double d .claim (h .accepted) (reaches i double d (settles i d) refl (h .ungated) (holds36 i double d h q))
+    ∙ all-three (not (fallOf i double d .claim .committed) && d .arb .«idle_claim») (a36 i double d) (e i double d)
+    (ltb 0 (d .cursor .remaining)) q (entered i double d h) (lt-ltb 0 (d .cursor .remaining) some)
 
 -- ---- readiness
 module _ (k : ℕ) (e : VramDma) (r : Since readiness k e) where
@@ -258,7 +223,7 @@ windows =
       tenure-passes = tenure-passes;
       tenure-claims =
           λ k i double d n b h some.
-          claims i double d h some (course i double d) (lasts tenureOf36 tenure-steps .active k i double d n ∙ lt-ltb k 36 b);
+          claims i double d h some (lasts tenureOf36 tenure-steps .active k i double d n ∙ lt-ltb k 36 b);
       ready-steps = ready-steps;
       ready-lasts = waits-for;
       ready-waits = ready-waits;

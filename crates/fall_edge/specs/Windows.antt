@@ -167,6 +167,14 @@ pub record Entries (i : FallInput) (double : Bool) (d : VramDma) : Type 0 where
       && not (before6 i double d .block .taken || passes i double d)
       && ltb 0 (d .cursor .remaining)
       && eqb (before6 i double d .block .remaining) 0)
+  -- the idle claim after the fall: a commit drops it, an entry in the tenure with bytes left sets it
+  pub claim :
+      fallOf i double d .refused ≡ false → reaches6 i d ≡ true →
+      fallOf i double d .dma .arb .«idle_claim» ≡
+      ((not (fallOf i double d .claim .committed) && d .arb .«idle_claim»)
+      || (activeOf (atStep tenureOf36 i double d)
+      && (eqb (i .mode) 0 && not (d .arb .«prev_view_hblank»))
+      && ltb 0 (d .cursor .remaining)))
 
 -- what leaves all four countdowns as they are
 pub record KeepsWindows (d e : VramDma) : Type 0 where
