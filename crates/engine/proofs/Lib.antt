@@ -1,2 +1,3 @@
 pub mod Says
 mod FallCall
+pub mod SwitchBlind

@@ -2,3 +2,4 @@ pub mod Pair
 pub mod Fall
 pub mod Speed
 pub mod Lcd
+pub mod SwitchBlind
