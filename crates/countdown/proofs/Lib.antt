@@ -1,3 +1,4 @@
 pub mod Tests
 pub mod Choice
 pub mod Counts
+pub mod SmallSteps

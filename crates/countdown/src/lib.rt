@@ -1,5 +1,5 @@
 // The one-shot down-counter of the engine (vram_dma.rs, `Countdown`), and the small arithmetic
-// that every other crate shares: choices (`pick`) and saturating steps (`step`).
+// that every other crate shares: choices (`pick`), saturating steps and a sum with its carry (`step`).
 pub mod pick;
 pub mod step;
 

@@ -1,8 +1,10 @@
-// The Rust's saturating steps. Subtraction of naturals stops at 0, so each contract is the plain difference.
+// The Rust's saturating steps and its `overflowing_add` (laws: specs/SmallSteps.antt). Subtraction of naturals stops at 0, so the
+// contract of a step down is the plain difference.
 ghost use mathlib.Core.Path.{_≡_};
 ghost use Prim.Native.Nat.{_-_, _<_};
 ghost use mathlib.Core.Bool.{cond};
 ghost use Rattle.countdown.specs.Countdown.{Widened, saturatingInc};
+ghost use Rattle.countdown.specs.SmallSteps.{carriedOf};
 
 pub fn less_one(n: u8) -> u8
     ensures { λ r. ⌜ r ≡ n - 1 ⌝ }
@@ -32,6 +34,29 @@ pub fn saturating_sub16(a: u16, b: u16) -> u16
     ensures { λ r. ⌜ r ≡ a - b ⌝ }
 {
     if a > b { a - b } else { 0 }
+}
+
+pub fn saturating_sub32(a: u32, b: u32) -> u32
+    ensures { λ r. ⌜ r ≡ a - b ⌝ }
+{
+    if a > b { a - b } else { 0 }
+}
+
+// A sum within 16 bits, with the carry out of them: `(u16, bool)` in the Rust.
+pub struct Carried {
+    pub sum: u16,
+    pub carry: bool,
+}
+
+// A sum that wrapped is below each of its parts.
+pub fn overflowing_add16(a: u16, b: u16) -> Carried
+    ensures { λ r. ⌜ r ≡ carriedOf a b ⌝ }
+{
+    let sum = std::num::wrapping_add_u16(a, b);
+    Carried {
+        sum: sum,
+        carry: sum < a,
+    }
 }
 
 // A byte as a wider number, with the bound that a plain cast of a field would lose.

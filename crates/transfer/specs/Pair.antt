@@ -25,9 +25,13 @@ movingOf d =
 abbrev pub quotaOf : Bool → Bool → ℕ
 quotaOf moving double = cond moving (cond double 1 2) 0
 
--- "1 from left (or, instead, the owed escape)"; "Destination leaving FFFFh becomes 0 and left becomes 0"
+-- "1 from left (or, instead, the owed escape)"; nothing where the destination was carried
+abbrev pub leftIf : Bool → TransferCursor → ℕ
+leftIf carried c = cond carried 0 (cond (c .«escape_byte») (c .remaining) (c .remaining - 1))
+
+-- "Destination leaving FFFFh becomes 0 and left becomes 0"
 abbrev pub leftAfter : TransferCursor → ℕ
-leftAfter c = cond (eqb (c .dest) 0xFFFF) 0 (cond (c .«escape_byte») (c .remaining) (c .remaining - 1))
+leftAfter c = leftIf (eqb (c .dest) 0xFFFF) c
 
 -- "Each pair takes 1 from quota"; "Source wraps"; "Left 0 makes the mode Idle"
 unfoldable pub cursorAfter : TransferCursor → TransferCursor

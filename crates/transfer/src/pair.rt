@@ -1,6 +1,6 @@
 // The next pair of addresses (vram_dma.rs, `next_byte`, `drain_escape`, `moving`, `refill_quota`).
 ghost use mathlib.Core.Path.{_≡_};
-ghost use Rattle.transfer.specs.Pair.{movingOf, quotaOf, leftAfter, cursorAfter, blockAfter, arbAfter, advancedOf, nextByteOf, drainOf};
+ghost use Rattle.transfer.specs.Pair.{movingOf, quotaOf, leftIf, cursorAfter, blockAfter, arbAfter, advancedOf, nextByteOf, drainOf};
 use console::same;
 use console::vram_dma::HaltArbiter;
 use console::vram_dma::HblankBlock;
@@ -13,6 +13,8 @@ use countdown::Countdown;
 use countdown::pick::pick8;
 use countdown::pick::pick16;
 use countdown::step::less_one;
+use countdown::step::less_one_if;
+use countdown::step::overflowing_add16;
 use countdown::step::saturating_sub16;
 
 // Where a byte is read and where it is stored.
@@ -52,25 +54,25 @@ pub fn quota(moving: bool, double_speed: bool) -> u8
 }
 
 // What is left after a pair: an owed escape is taken instead, and a carry ends the transfer.
-fn left_after(c: TransferCursor) -> u16
-    ensures { λ r. ⌜ r ≡ leftAfter c ⌝ }
+fn left_after(c: TransferCursor, carried: bool) -> u16
+    ensures { λ r. ⌜ r ≡ leftIf carried c ⌝ }
 {
     let counted = pick16(c.escape_byte, c.remaining, saturating_sub16(c.remaining, 1));
-    pick16(c.dest == 0xFFFF, 0, counted)
+    pick16(carried, 0, counted)
 }
 
 fn cursor_after(c: TransferCursor) -> TransferCursor
     ensures { λ r. ⌜ r ≡ cursorAfter c ⌝ }
 {
-    let left = left_after(c);
+    let dest = overflowing_add16(c.dest, 1);
+    let left = left_after(c, dest.carry);
     let old = c.mode;
     let mode = pick_mode(left == 0, TransferMode::Idle, old);
     let source = std::num::wrapping_add_u16(c.source, 1);
-    let dest = std::num::wrapping_add_u16(c.dest, 1);
     let quota = less_one(c.quota);
     TransferCursor {
         source: source,
-        dest: dest,
+        dest: dest.sum,
         mode: mode,
         remaining: left,
         quota: quota,
@@ -99,7 +101,7 @@ fn block_after(b: HblankBlock) -> HblankBlock
 fn arb_after(a: HaltArbiter, last: bool, ended: bool) -> HaltArbiter
     ensures { λ r. ⌜ r ≡ arbAfter last ended a ⌝ }
 {
-    let granted = pick8(last, less_one(a.granted_ahead), a.granted_ahead);
+    let granted = less_one_if(last, a.granted_ahead);
     let park = a.park_waits_for_fetch & !last;
     let claim = a.idle_claim & !ended;
     HaltArbiter {

@@ -5,7 +5,7 @@ use Rattle.transfer.proofs.pair.arb_after.Tie as tie
 
 returns : tie.Need-returns
 unfolding arbAfter
-returns c = simp (c .before .before .pick8 .ensures, c .before .before .before .less-one .ensures)
+returns c = simp (c .before .before .less-one-if .ensures)
 
 pub arb-after-spec : {M : Type 1} → statement M
-arb-after-spec = tie.close (tie.spec (λ _ _. tt) (λ _ _. tt) returns)
+arb-after-spec = tie.close (tie.spec (λ _ _. tt) returns)
