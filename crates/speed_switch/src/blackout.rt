@@ -1,25 +1,16 @@
 // A blackout drains, and a wake in it is taken in (speed_switch.rs, `drain_blackout`, `wake_intake_ready`).
 ghost use mathlib.Core.Path.{_≡_};
-ghost use Rattle.speed_switch.specs.Blackout.{drained, latencyAfterDrain, latencyAfterWake, drainedOf, wokenOf};
+ghost use Rattle.speed_switch.specs.Blackout.{latencyAfterDrain, latencyAfterWake, drainedOf, wokenOf};
 ghost use Rattle.console.specs.Set.{withSpeedSwitchBlackout, withSpeedSwitchWakeLatency};
 use console::Cgb;
 use console::WakeLatency;
 use countdown::step::less_one_if;
+use countdown::step::saturating_sub32;
 
 // A flag, with the state after.
 pub struct Flagged {
     pub flag: bool,
     pub state: Cgb,
-}
-
-fn drain(blackout: u32, elapsed: u32) -> u32
-    ensures { λ r. ⌜ r ≡ drained elapsed blackout ⌝ }
-{
-    if blackout > elapsed {
-        blackout - elapsed
-    } else {
-        0
-    }
 }
 
 // A blackout that has run out forgets the wake in flight.
@@ -59,7 +50,7 @@ fn with_latency(s: Cgb, blackout: u32, latency: WakeLatency) -> Cgb
 pub fn drain_blackout(s: Cgb, elapsed: u32) -> Flagged
     ensures { λ r. ⌜ r ≡ drainedOf elapsed s ⌝ }
 {
-    let left = drain(s.speed_switch_blackout, elapsed);
+    let left = saturating_sub32(s.speed_switch_blackout, elapsed);
     let old = s.speed_switch_wake_latency;
     let latency = latency_after_drain(left == 0, old);
     let state = with_latency(s, left, latency);

@@ -5,7 +5,7 @@ use Rattle.speed_switch.proofs.blackout.drain_blackout.Tie as tie
 
 returns : tie.Need-returns
 unfolding drainedOf
-returns c = simp (c .with-latency .ensures, c .before .latency-after-drain .ensures, c .before .before .drain .ensures)
+returns c = simp (c .with-latency .ensures, c .before .latency-after-drain .ensures, c .before .before .saturating-sub32 .ensures)
 
 pub drain-blackout-spec : {M : Type 1} → statement M
 drain-blackout-spec = tie.close (tie.spec (λ _ _. tt) (λ _ _. tt) (λ _ _. tt) returns)
