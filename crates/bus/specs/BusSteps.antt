@@ -5,6 +5,7 @@ use mathlib.Core.Bool.{Bool, true, false, cond}
 use mathlib.Core.List.{List, [], _∷_}
 use lib.Dec.{eqb}
 use lib.ListN.{length, set, getD}
+use Rattle.countdown.specs.Countdown.{remainingOf, stepped}
 use Rattle.console.specs.declared.vram_dma.VramDma.{VramDma}
 use Rattle.transfer.specs.Pair.{nextByteOf}
 use Rattle.transfer.specs.declared.pair.BytePair.{BytePair}
@@ -20,8 +21,8 @@ pub record BusSteps (i : BusInput) (d : VramDma) : Type 0 where
   pub released : i .hold ≡ false → i .suspended ≡ false → busTaken i d ≡ nothing d
   -- "A set-up cell uses up the call."
   pub cell :
-      holdsBus i ≡ true → 0 < d .block .«setup_cells» .0 →
-      busTaken i d ≡ record { dma = withCells (record { 0 = d .block .«setup_cells» .0 - 1 }) d; pairs = []; setup = true }
+      holdsBus i ≡ true → 0 < remainingOf (d .block .«setup_cells») →
+      busTaken i d ≡ record { dma = withCells (stepped (d .block .«setup_cells»)) d; pairs = []; setup = true }
   -- "Otherwise pairs are taken until none comes": the first one is the engine's next, the rest are those of the engine after it,
   -- and at the end there is none
   pub none : holdsBus i ≡ true → setupStands d ≡ false → nextByteOf d .answer ≡ None → busTaken i d ≡ nothing d

@@ -3,7 +3,7 @@
 use Prim.Native.Nat.{ℕ, _-_, _/_}
 use mathlib.Core.Bool.{Bool, true, false, cond, not, _&&_, _||_}
 use lib.Dec.{ltb, leb, eqb}
-use Rattle.countdown.specs.Countdown.{armed, cleared, activeOf, ticked, expiredOf, saturatingInc}
+use Rattle.countdown.specs.Countdown.{armed, cleared, activeOf, remainingOf, ticked, expiredOf, saturatingInc}
 use Rattle.countdown.specs.declared.Countdown.{Countdown}
 use Rattle.console.specs.Set.{withCursorQuota, withBlockRemaining, withBlockStartEdge, withBlockTaken, withBlockSetupCells, withBlockReadyIn, withBlockSeizeFalls, withBlockFromArm, withBlockArmReadyProbation, withArbPend, withArbPendFromArm, withArbArmedThisFall, withArbHaltedFalls, withArbPrevViewHblank, withArbPendAge, withArbPendGranted, withArbWakeTenure, withArbParkWaitsForFetch, withArbIdleClaim, withArbHaltWakeBlind, withArbPrevCpuHalted, withArbGrantCounted, withArbWakePendBlind, withArbGrantedAhead, withDmaCursor, withDmaBlock, withDmaArb}
 use Rattle.console.specs.declared.VramDmaClaim.{VramDmaClaim}
@@ -136,11 +136,11 @@ gatedOf v d =
     refilledOf (v .«double_speed»)
     (withDmaArb (grantedArb (grants v (d .cursor .remaining / 16) (d .arb)) (pendedArb (haltPends v d) (agedArb (d .arb)))) d)
 
--- ---- step 6, blinds: an entry in one of them is taken without service; the first tick of the blind of 6 is exempt
+-- ---- step 6, blinds: both tick; an entry in one of them is taken without service; the first tick of the blind of 6 is exempt
 abbrev pub blinded : View → HaltArbiter → Bool
 blinded v a =
-    (activeOf (a .«halt_wake_blind») && v .«entry_edge»)
-    || (activeOf (a .«wake_pend_blind») && v .«entry_edge» && not (eqb (a .«wake_pend_blind» .0) 6))
+    (ticked (a .«halt_wake_blind») .flag && v .«entry_edge»)
+    || (ticked (a .«wake_pend_blind») .flag && v .«entry_edge» && not (eqb (remainingOf (a .«wake_pend_blind»)) 6))
 
 unfoldable pub blindsArb : HaltArbiter → HaltArbiter
 blindsArb a =
@@ -205,9 +205,9 @@ unfoldable pub commitOf : Bool → View → VramDma → VramDma
 commitOf committing v d =
     withDmaBlock (commitBlock committing v (d .arb) (d .block)) (withDmaArb (commitArb committing v (d .arb)) d)
 
--- ---- step 6, tenure: an entry in it is taken, and claims where bytes are left
+-- ---- step 6, tenure: it ticks; an entry in it is taken, and claims where bytes are left
 abbrev pub consumes : View → HaltArbiter → Bool
-consumes v a = activeOf (a .«wake_tenure») && v .«entry_edge»
+consumes v a = ticked (a .«wake_tenure») .flag && v .«entry_edge»
 
 unfoldable pub tenureArb : Bool → HaltArbiter → HaltArbiter
 tenureArb claims a = withArbWakeTenure (ticked (a .«wake_tenure») .next) (withArbIdleClaim (a .«idle_claim» || claims) a)

@@ -1,5 +1,6 @@
 // The arbiter's part of each stage.
 ghost use mathlib.Core.Path.{_≡_};
+ghost use mathlib.Core.Bool.{_&&_};
 ghost use Rattle.fall_edge.specs.Stages.{settledArb, haltedFallsOf, wakeBlindOf, observedArb, ungrantedArb, haltLatchArb, agedArb, pendedArb, grants, grantedArb, blinded, blindsArb, drives, tenureIf, commitArb, consumes, tenureArb, pendArb};
 use crate::View;
 use console::vram_dma::HaltArbiter;
@@ -8,6 +9,13 @@ use countdown::step::less_one_if;
 use countdown::step::saturating_inc;
 use countdown::step::saturating_inc_if;
 use countdown::step::wide;
+
+// The arbiter after its blinds or its tenure ticked. Passed over: an entry fell into one of them, and this HBlank is
+// taken without service.
+pub struct ArbTicked {
+    pub arb: HaltArbiter,
+    pub passed_over: bool,
+}
 
 pub fn settle(a: HaltArbiter, in_hblank: bool) -> HaltArbiter
     ensures { λ r. ⌜ r ≡ settledArb «in_hblank» a ⌝ }
@@ -220,35 +228,32 @@ pub fn in_halt(a: HaltArbiter, v: View, pends: bool, blocks: u16) -> HaltArbiter
     grant_if(pend_if(age(a), pends), grants)
 }
 
-// An entry falls into one of the blinds. The first tick after a switch is exempt.
-pub fn blinded(a: HaltArbiter, v: View) -> bool
-    ensures { λ r. ⌜ r ≡ blinded v a ⌝ }
-{
-    ((a.halt_wake_blind.0 > 0) & v.entry_edge)
-        | ((a.wake_pend_blind.0 > 0) & v.entry_edge & !(a.wake_pend_blind.0 == 6))
-}
-
-pub fn step_blinds(a: HaltArbiter) -> HaltArbiter
-    ensures { λ r. ⌜ r ≡ blindsArb a ⌝ }
+// Both blinds tick. The first tick of the blind of 6, which a switch arms, passes nothing over.
+pub fn step_blinds(a: HaltArbiter, v: View) -> ArbTicked
+    ensures { λ r. ⌜ r ≡ record { arb = blindsArb a; «passed_over» = blinded v a } ⌝ }
 {
     let halt = a.halt_wake_blind.tick();
+    let first = a.wake_pend_blind.remaining() == 6;
     let wake = a.wake_pend_blind.tick();
-    HaltArbiter {
-        pend: a.pend,
-        pend_from_arm: a.pend_from_arm,
-        armed_this_fall: a.armed_this_fall,
-        halted_falls: a.halted_falls,
-        prev_view_hblank: a.prev_view_hblank,
-        pend_age: a.pend_age,
-        pend_granted: a.pend_granted,
-        wake_tenure: Countdown(a.wake_tenure.0),
-        park_waits_for_fetch: a.park_waits_for_fetch,
-        idle_claim: a.idle_claim,
-        halt_wake_blind: Countdown(halt.next.0),
-        prev_cpu_halted: a.prev_cpu_halted,
-        grant_counted: a.grant_counted,
-        wake_pend_blind: Countdown(wake.next.0),
-        granted_ahead: a.granted_ahead,
+    ArbTicked {
+        arb: HaltArbiter {
+            pend: a.pend,
+            pend_from_arm: a.pend_from_arm,
+            armed_this_fall: a.armed_this_fall,
+            halted_falls: a.halted_falls,
+            prev_view_hblank: a.prev_view_hblank,
+            pend_age: a.pend_age,
+            pend_granted: a.pend_granted,
+            wake_tenure: Countdown(a.wake_tenure.0),
+            park_waits_for_fetch: a.park_waits_for_fetch,
+            idle_claim: a.idle_claim,
+            halt_wake_blind: Countdown(halt.next.0),
+            prev_cpu_halted: a.prev_cpu_halted,
+            grant_counted: a.grant_counted,
+            wake_pend_blind: Countdown(wake.next.0),
+            granted_ahead: a.granted_ahead,
+        },
+        passed_over: (halt.flag & v.entry_edge) | (wake.flag & v.entry_edge & !first),
     }
 }
 
@@ -311,32 +316,31 @@ pub fn commit(a: HaltArbiter, v: View, committing: bool) -> HaltArbiter
     }
 }
 
-pub fn consumes(a: HaltArbiter, v: View) -> bool
-    ensures { λ r. ⌜ r ≡ consumes v a ⌝ }
-{
-    (a.wake_tenure.0 > 0) & v.entry_edge
-}
-
-pub fn step_tenure(a: HaltArbiter, claims: bool) -> HaltArbiter
-    ensures { λ r. ⌜ r ≡ tenureArb claims a ⌝ }
+// The tenure ticks; an entry that it passes over claims where bytes are left.
+pub fn step_tenure(a: HaltArbiter, v: View, bytes_left: bool) -> ArbTicked
+    ensures { λ r. ⌜ r ≡ record { arb = tenureArb (consumes v a && «bytes_left») a; «passed_over» = consumes v a } ⌝ }
 {
     let tenure = a.wake_tenure.tick();
-    HaltArbiter {
-        pend: a.pend,
-        pend_from_arm: a.pend_from_arm,
-        armed_this_fall: a.armed_this_fall,
-        halted_falls: a.halted_falls,
-        prev_view_hblank: a.prev_view_hblank,
-        pend_age: a.pend_age,
-        pend_granted: a.pend_granted,
-        wake_tenure: Countdown(tenure.next.0),
-        park_waits_for_fetch: a.park_waits_for_fetch,
-        idle_claim: a.idle_claim | claims,
-        halt_wake_blind: Countdown(a.halt_wake_blind.0),
-        prev_cpu_halted: a.prev_cpu_halted,
-        grant_counted: a.grant_counted,
-        wake_pend_blind: Countdown(a.wake_pend_blind.0),
-        granted_ahead: a.granted_ahead,
+    let consumes = tenure.flag & v.entry_edge;
+    ArbTicked {
+        arb: HaltArbiter {
+            pend: a.pend,
+            pend_from_arm: a.pend_from_arm,
+            armed_this_fall: a.armed_this_fall,
+            halted_falls: a.halted_falls,
+            prev_view_hblank: a.prev_view_hblank,
+            pend_age: a.pend_age,
+            pend_granted: a.pend_granted,
+            wake_tenure: Countdown(tenure.next.0),
+            park_waits_for_fetch: a.park_waits_for_fetch,
+            idle_claim: a.idle_claim | (consumes & bytes_left),
+            halt_wake_blind: Countdown(a.halt_wake_blind.0),
+            prev_cpu_halted: a.prev_cpu_halted,
+            grant_counted: a.grant_counted,
+            wake_pend_blind: Countdown(a.wake_pend_blind.0),
+            granted_ahead: a.granted_ahead,
+        },
+        passed_over: consumes,
     }
 }
 

@@ -71,7 +71,7 @@ pub fn judge(b: HblankBlock, back: bool) -> HblankBlock
 pub fn joins_halt(b: HblankBlock, v: View) -> bool
     ensures { λ r. ⌜ r ≡ joinsHalt v b ⌝ }
 {
-    v.cpu_halted & !v.was_halted & (b.remaining == 16) & (b.ready_in.0 > 0)
+    v.cpu_halted & !v.was_halted & (b.remaining == 16) & b.ready_in.active()
 }
 
 pub fn drop_if(b: HblankBlock, joins: bool) -> HblankBlock

@@ -80,16 +80,16 @@ fn still(d: VramDma) -> bool
     ensures { λ r. ⌜ r ≡ stillOf d ⌝ }
 {
     (d.block.remaining == 0)
-        & !(d.block.setup_cells.0 > 0)
-        & !(d.block.ready_in.0 > 0)
+        & !d.block.setup_cells.active()
+        & !d.block.ready_in.active()
         & !d.block.arm_ready_probation
         & !d.arb.pend
         & !d.arb.pend_granted
         & !d.arb.prev_cpu_halted
         & !d.arb.armed_this_fall
-        & !(d.arb.halt_wake_blind.0 > 0)
-        & !(d.arb.wake_pend_blind.0 > 0)
-        & !(d.arb.wake_tenure.0 > 0)
+        & !d.arb.halt_wake_blind.active()
+        & !d.arb.wake_pend_blind.active()
+        & !d.arb.wake_tenure.active()
 }
 
 // The fall comes to `settle_inert`: where the engine is inert, and also while bytes are left, with none
@@ -217,9 +217,9 @@ fn gate(d: VramDma, v: View) -> VramDma
 fn step_blinds(d: VramDma, v: View) -> VramDma
     ensures { λ r. ⌜ r ≡ blindsOf v d ⌝ }
 {
-    let blinded = arb::blinded(d.arb, v);
-    let arb = arb::step_blinds(d.arb);
-    let block = block::take_if(d.block, blinded);
+    let ticked = arb::step_blinds(d.arb, v);
+    let arb = ticked.arb;
+    let block = block::take_if(d.block, ticked.passed_over);
     let cursor = same::cursor(d.cursor);
     let oam = same::oam(d.oam);
     VramDma {
@@ -249,9 +249,9 @@ fn commit(d: VramDma, v: View, committing: bool) -> VramDma
 fn step_tenure(d: VramDma, v: View) -> VramDma
     ensures { λ r. ⌜ r ≡ tenureOf v d ⌝ }
 {
-    let consumed = arb::consumes(d.arb, v);
-    let arb = arb::step_tenure(d.arb, consumed & (d.cursor.remaining > 0));
-    let block = block::take_if(d.block, consumed);
+    let ticked = arb::step_tenure(d.arb, v, d.cursor.remaining > 0);
+    let arb = ticked.arb;
+    let block = block::take_if(d.block, ticked.passed_over);
     let cursor = same::cursor(d.cursor);
     let oam = same::oam(d.oam);
     VramDma {

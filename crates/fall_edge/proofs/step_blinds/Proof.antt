@@ -5,7 +5,7 @@ use Rattle.fall_edge.proofs.step_blinds.Tie as tie
 
 returns : tie.Need-returns
 unfolding blindsOf
-returns c = simp (c .oam .ensures, c .before .cursor .ensures, c .before .before .take-if .ensures, c .before .before .before .step-blinds .ensures, c .before .before .before .before .blinded .ensures)
+returns c = simp (c .oam .ensures, c .before .cursor .ensures, c .before .before .take-if .ensures, c .before .before .before .before .step-blinds .ensures)
 
 pub step-blinds-spec : {M : Type 1} → statement M
-step-blinds-spec = tie.close (tie.spec (λ _ _. tt) (λ _ _. tt) (λ _ _. tt) (λ _ _. tt) (λ _ _. tt) returns)
+step-blinds-spec = tie.close (tie.spec (λ _ _. tt) (λ _ _. tt) (λ _ _. tt) (λ _ _. tt) returns)

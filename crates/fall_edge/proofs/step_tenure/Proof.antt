@@ -5,7 +5,7 @@ use Rattle.fall_edge.proofs.step_tenure.Tie as tie
 
 returns : tie.Need-returns
 unfolding tenureOf
-returns c = simp (c .oam .ensures, c .before .cursor .ensures, c .before .before .take-if .ensures, c .before .before .before .step-tenure .ensures, c .before .before .before .before .before .consumes .ensures)
+returns c = simp (c .oam .ensures, c .before .cursor .ensures, c .before .before .take-if .ensures, c .before .before .before .before .step-tenure .ensures)
 
 pub step-tenure-spec : {M : Type 1} → statement M
-step-tenure-spec = tie.close (tie.spec (λ _ _. tt) (λ _ _. tt) (λ _ _. tt) (λ _ _. tt) (λ _ _. tt) returns)
+step-tenure-spec = tie.close (tie.spec (λ _ _. tt) (λ _ _. tt) (λ _ _. tt) (λ _ _. tt) returns)

@@ -5,7 +5,7 @@ use Rattle.fall_edge.proofs.arb.step_blinds.Tie as tie
 
 returns : tie.Need-returns
 unfolding blindsArb
-returns c = simp (c .tick2 .ensures, c .before .tick .ensures)
+returns c = simp (c .before .before .before .before .tick2 .ensures, c .before .before .before .before .before .remaining .ensures, c .before .before .before .before .before .before .tick .ensures)
 
 pub step-blinds-spec : {M : Type 1} → statement M
-step-blinds-spec = tie.close (tie.spec (λ _ _. tt) (λ _ _. tt) returns)
+step-blinds-spec = tie.close (tie.spec (λ _ _. tt) (λ _ _. tt) (λ _ _. tt) returns)

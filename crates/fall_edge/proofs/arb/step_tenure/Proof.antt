@@ -5,7 +5,7 @@ use Rattle.fall_edge.proofs.arb.step_tenure.Tie as tie
 
 returns : tie.Need-returns
 unfolding tenureArb
-returns c = simp (c .before .tick .ensures)
+returns c = simp (c .before .before .before .tick .ensures)
 
 pub step-tenure-spec : {M : Type 1} → statement M
 step-tenure-spec = tie.close (tie.spec (λ _ _. tt) returns)
