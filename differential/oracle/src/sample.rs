@@ -1,5 +1,5 @@
-//! The script that is stored as crates/replay/stdin: document 01's six records, then what these leave out. Each record has junk in
-//! every bit that its kind ignores, but for the paper's and the repetitive ones. Only the original's lines are stored beside it.
+//! The script that is stored as crates/replay/stdin: document 01's six records, then what these leave out. But for these six,
+//! the long repetitions and the calls at the end, each record has junk in every bit that its kind ignores.
 use std::io::Write;
 
 use crate::calls::kind;
