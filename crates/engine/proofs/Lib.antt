@@ -1,3 +1,4 @@
 pub mod Says
 mod FallCall
 pub mod SwitchBlind
+pub mod RefusalSteps

@@ -3,3 +3,4 @@ pub mod Fall
 pub mod Speed
 pub mod Lcd
 pub mod SwitchBlind
+pub mod RefusalSteps
