@@ -3,3 +3,4 @@ pub mod Says
 pub mod Bused
 pub mod AccessSteps
 pub mod SharedBusSteps
+pub mod BusCallSteps

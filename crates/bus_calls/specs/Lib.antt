@@ -3,3 +3,4 @@ pub mod Bus
 pub mod BusCall
 pub mod AccessSteps
 pub mod SharedBusSteps
+pub mod BusCallSteps

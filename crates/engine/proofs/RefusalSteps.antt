@@ -1,11 +1,9 @@
 -- A fall and a switch are declined in document 01's order (specs, `FallRefusals`, `SwitchRefusals`). Assumes nothing.
-use Prim.Native.Nat.{_<_, _≤_}
 use native.Mathlib.Omega.{arith}
-use mathlib.Core.Path.{_≡_, refl}
+use mathlib.Core.Path.{_≡_}
 use mathlib.Core.Bool.{true, false}
 use lib.Dec.{ltb}
 use borrow.Author.Tests.{lt-ltb, le-ltb}
-use Rattle.console.specs.Reached.{unreached}
 use Rattle.console.specs.declared.Cgb.{Cgb}
 use Rattle.fall_edge.specs.declared.FallInput.{FallInput}
 use Rattle.transfer.proofs.Conditions.{when-false}
@@ -15,7 +13,7 @@ use Rattle.speed_switch.specs.declared.switch.SwitchInput.{SwitchInput}
 use Rattle.speed_switch.proofs.SpeedSteps.{speed-steps}
 use Rattle.engine.specs.Fall.{fallRefusal}
 use Rattle.engine.specs.Speed.{defers, switchRefusal}
-use Rattle.engine.specs.RefusalSteps.{FallRefusals, Attempted, SwitchRefusals}
+use Rattle.engine.specs.RefusalSteps.{FallRefusals, SwitchRefusals}
 
 pub fall-refusals : (s : Cgb) (i : FallInput) → FallRefusals s i
 unfolding fallRefusal
