@@ -496,8 +496,10 @@ fn deposits(a: &mut Aim, block: State) {
 /// The switch, both ways: a block ready, waiting and none, left 0 with a block, the debit, the phases, the interrupt.
 fn switches(a: &mut Aim) {
     let armed = a.rest().with(&[(KEY1, 1)]);
-    let changes: [Settings; 24] = [
+    let changes: [Settings; 26] = [
         &[(BLOCK, 16), (LEFT, 32), (MODE, 2)],
+        &[(BLOCK, 16), (LEFT, 2048), (MODE, 2)],
+        &[(BLOCK, 16), (LEFT, 2048), (MODE, 2), (READY, 1)],
         &[(BLOCK, 16), (LEFT, 32), (MODE, 2), (GRANTED, 1), (COUNTED, 1)],
         &[(BLOCK, 1), (LEFT, 1), (GRANTED, 255), (QUOTA, 2)],
         &[(BLOCK, 16), (LEFT, 32), (READY, 1), (SETUP, 1), (GRANTED, 2), (COUNTED, 1)],
