@@ -1,6 +1,6 @@
 -- How long the fall's windows last (document 01: "One lemma serves every countdown length and both speeds"): the blind of 3, the
 -- blind of 6, readiness and the tenure of 36. Each is a countdown of the engine that an ungated fall steps once and a gated fall
--- leaves atStep (vram_dma.rs: "the countdown runs on engine ticks only"). A fall is accepted where it is not refused with 14.
+-- leaves as it is (vram_dma.rs: "the countdown runs on engine ticks only"). A fall is accepted where it is not refused with 14.
 use Prim.Native.Nat.{ℕ, suc, _-_, _<_, _≤_}
 use mathlib.Core.Path.{_≡_}
 use mathlib.Core.Bool.{Bool, true, false, cond, not, _&&_, _||_}
