@@ -8,8 +8,8 @@ use lib.ListN.{length, drop, replicate}
 use lib.Seq.{getD-drop, drop-at}
 use lib.Dec.{eqb}
 use mir.Val.{boolByte}
-use Rattle.codec.proofs.Digits.{digits-back}
-use Rattle.codec.specs.Number.{number, byteAt, bytesAt, numberAt}
+use Rattle.arithmetic.proofs.Digits.{digits-back}
+use Rattle.arithmetic.specs.Number.{number, byteAt, bytesAt, numberAt}
 use Rattle.codec.specs.Cursor.{modeNumber, modeOf, cursorBytes, cursorOf}
 use Rattle.codec.specs.Block.{blockBytes, blockOf}
 use Rattle.codec.specs.Arb.{arbBytes, arbOf}

@@ -3,9 +3,9 @@ use Prim.Native.Nat.{ℕ, zero, suc, _<_}
 use mathlib.Core.Bool.{Bool, true, false, cond}
 use mathlib.Core.List.{List}
 use lib.Dec.{lit<, eqb}
-use Rattle.codec.proofs.Digits.{number-fits}
+use Rattle.arithmetic.proofs.Digits.{number-fits}
 use Rattle.codec.proofs.Runs.{part-length}
-use Rattle.codec.specs.Number.{byteAt, bytesAt}
+use Rattle.arithmetic.specs.Number.{byteAt, bytesAt}
 use Rattle.codec.specs.Cursor.{cursorOf}
 use Rattle.codec.specs.Block.{blockOf}
 use Rattle.codec.specs.Arb.{arbOf}

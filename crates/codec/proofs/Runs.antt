@@ -9,7 +9,7 @@ use mathlib.Core.Bool.{Bool, _&&_, and-assoc, and-true}
 use lib.ListN.{length, getD, set, drop, drop-of-length-le}
 use lib.Seq.{sets, sets-eq, drop-cons, drop-length}
 use lib.Dec.{eqb}
-use Rattle.codec.specs.Number.{bytesAt}
+use Rattle.arithmetic.specs.Number.{bytesAt}
 use Rattle.codec.specs.Codec.{sameFrom}
 
 -- the bytes p stored from offset at on into l₀; l is l₀ with the first i stored, and the next goes to offset k

@@ -2,7 +2,7 @@
 use Prim.Native.Nat.{ℕ}
 use mathlib.Core.List.{List, [], _∷_}
 use mir.Val.{boolByte}
-use Rattle.codec.specs.Number.{byteAt, flagAt}
+use Rattle.arithmetic.specs.Number.{byteAt, flagAt}
 use Rattle.console.specs.declared.vram_dma.HaltArbiter.{HaltArbiter}
 
 unfoldable pub arbBytes : HaltArbiter → List ℕ

@@ -2,7 +2,7 @@
 use Prim.Native.Nat.{ℕ}
 use mathlib.Core.List.{List, [], _∷_, _++_}
 use mir.Val.{boolByte}
-use Rattle.codec.specs.Number.{digits, byteAt, numberAt, flagAt}
+use Rattle.arithmetic.specs.Number.{digits, byteAt, numberAt, flagAt}
 use Rattle.console.specs.declared.vram_dma.HblankBlock.{HblankBlock}
 
 unfoldable pub blockBytes : HblankBlock → List ℕ

@@ -4,7 +4,7 @@ use mathlib.Core.Bool.{cond}
 use mathlib.Core.List.{List, [], _∷_, _++_}
 use lib.Dec.{eqb}
 use mir.Val.{boolByte}
-use Rattle.codec.specs.Number.{digits, byteAt, numberAt, flagAt}
+use Rattle.arithmetic.specs.Number.{digits, byteAt, numberAt, flagAt}
 use Rattle.console.specs.declared.vram_dma.TransferCursor.{TransferCursor}
 use Rattle.console.specs.declared.vram_dma.TransferMode.{TransferMode}
 use Rattle.console.specs.declared.vram_dma.TransferMode.the-variants.{Idle, General, HBlank}

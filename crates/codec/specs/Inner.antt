@@ -1,32 +1,13 @@
 -- What the crate's private functions are held to, in the words of the layout: it adds nothing to what is written or read.
-use Prim.Native.Nat.{ℕ, zero, suc, _+_, _/_, _%_}
+use Prim.Native.Nat.{ℕ, _+_}
 use mathlib.Core.List.{List}
-use Rattle.codec.specs.Number.{byteAt}
+use Rattle.arithmetic.specs.Number.{byteAt}
 use Rattle.codec.specs.Rest.{latencyTag, latencyValue}
-use Rattle.codec.specs.declared.number.Eight.{Eight}
+use Rattle.arithmetic.specs.declared.number.Eight.{Eight}
 use Rattle.codec.specs.declared.rest.Registers.{Registers}
 use Rattle.codec.specs.declared.rest.Tagged.{Tagged}
 use Rattle.console.specs.declared.Cgb.{Cgb}
 use Rattle.console.specs.declared.WakeLatency.{WakeLatency}
-
--- the kth of a number's `digits`
-abbrev pub digit : ℕ → ℕ → ℕ
-digit zero x = x % 256
-digit (suc k) x = digit k (x / 256)
-
--- the lowest eight digits
-abbrev pub eightOf : ℕ → Eight
-eightOf x =
-    record {
-      b0 = digit 0 x;
-      b1 = digit 1 x;
-      b2 = digit 2 x;
-      b3 = digit 3 x;
-      b4 = digit 4 x;
-      b5 = digit 5 x;
-      b6 = digit 6 x;
-      b7 = digit 7 x;
-    }
 
 -- eight bytes from offset k on
 abbrev pub eightAt : List ℕ → ℕ → Eight

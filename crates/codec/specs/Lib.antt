@@ -1,4 +1,3 @@
-pub mod Number
 pub mod Cursor
 pub mod Block
 pub mod Arb

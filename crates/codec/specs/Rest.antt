@@ -4,7 +4,7 @@ use mathlib.Core.Bool.{cond}
 use mathlib.Core.List.{List, [], _∷_, _++_}
 use lib.Dec.{eqb}
 use mir.Val.{boolByte}
-use Rattle.codec.specs.Number.{digits, byteAt, numberAt, flagAt, bytesAt}
+use Rattle.arithmetic.specs.Number.{digits, byteAt, numberAt, flagAt, bytesAt}
 use Rattle.console.specs.declared.Cgb.{Cgb}
 use Rattle.console.specs.declared.CgbConsoleState.{CgbConsoleState}
 use Rattle.console.specs.declared.WakeLatency.{WakeLatency}

@@ -2,7 +2,7 @@
 ghost use mathlib.Core.Path.{_≡_};
 ghost use lib.Seq.{sets};
 ghost use Rattle.codec.specs.Arb.{arbBytes, arbOf};
-use crate::number::eight_at;
+use crate::run::eight_at;
 use crate::run::place;
 use console::vram_dma::HaltArbiter;
 use countdown::Countdown;

@@ -2,10 +2,10 @@
 ghost use mathlib.Core.Path.{_≡_};
 ghost use lib.Seq.{sets};
 ghost use Rattle.codec.specs.Block.{blockBytes, blockOf};
-use crate::number::eight_at;
-use crate::number::in_eight;
-use crate::number::of_eight;
+use crate::run::eight_at;
 use crate::run::place;
+use arithmetic::number::in_eight;
+use arithmetic::number::of_eight;
 use console::vram_dma::HblankBlock;
 use countdown::Countdown;
 

@@ -2,10 +2,10 @@
 ghost use mathlib.Core.Path.{_≡_};
 ghost use lib.Seq.{sets};
 ghost use Rattle.codec.specs.Cursor.{modeNumber, modeOf, cursorBytes, cursorOf};
-use crate::number::eight_at;
-use crate::number::in_eight;
-use crate::number::of_two;
+use crate::run::eight_at;
 use crate::run::place;
+use arithmetic::number::in_eight;
+use arithmetic::number::of_two;
 use console::vram_dma::TransferCursor;
 use console::vram_dma::TransferMode;
 

@@ -2,7 +2,6 @@
 mod arb;
 mod block;
 mod cursor;
-pub mod number;
 mod oam;
 mod rest;
 mod run;

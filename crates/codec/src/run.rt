@@ -5,6 +5,25 @@ ghost use lib.ListN.{length};
 ghost use lib.Seq.{sets};
 ghost use mathlib.Core.Bool.{_&&_};
 ghost use Rattle.codec.specs.Codec.{sameBytes, sameFrom};
+ghost use Rattle.codec.specs.Inner.{eightAt};
+use arithmetic::number::Eight;
+
+// Eight bytes from `k` on.
+pub(crate) fn eight_at(b: &[u8; 248], k: usize) -> Eight
+    requires { ⌜ k + 8 ≤ 248 ⌝ }
+    ensures { λ r. ⌜ r ≡ eightAt (now (b .entry)) k ⌝ }
+{
+    Eight {
+        b0: b[k],
+        b1: b[k + 1],
+        b2: b[k + 2],
+        b3: b[k + 3],
+        b4: b[k + 4],
+        b5: b[k + 5],
+        b6: b[k + 6],
+        b7: b[k + 7],
+    }
+}
 
 // `part` goes into `out` from `at` on.
 pub(crate) fn place(out: &mut [u8; 248], at: usize, part: &[u8])

@@ -2,7 +2,7 @@
 use Prim.Native.Nat.{ℕ, zero, suc, _-_}
 use native.Mathlib.Omega.{arith}
 use mathlib.Core.Path.{_≡_, refl}
-use Rattle.countdown.proofs.Tests.{ltb-same, eqb-same}
+use Rattle.arithmetic.proofs.Tests.{ltb-same, eqb-same}
 use Rattle.countdown.specs.Countdown.{armed, after, Counts}
 
 left : (n k : ℕ) → after k (armed n) .0 ≡ n - k

@@ -1,7 +1,7 @@
 -- The countdown (document 01, section 2: "each countdown is armed, cleared, ticked or expired").
 use mathlib.Core.Path.{_≡_}
-use Prim.Native.Nat.{ℕ, zero, suc, _+_, _-_, _<_}
-use mathlib.Core.Bool.{Bool, cond}
+use Prim.Native.Nat.{ℕ, zero, suc, _-_}
+use mathlib.Core.Bool.{Bool}
 use lib.Dec.{ltb, eqb}
 use Rattle.countdown.specs.declared.Countdown.{Countdown}
 use Rattle.countdown.specs.declared.Ticked.{Ticked}
@@ -46,12 +46,3 @@ pub record Counts (n k : ℕ) : Type 0 where
   pub drains : expiredOf (after k (armed n)) .flag ≡ eqb (suc k) n
   -- both kinds of step are the same step
   pub step : expiredOf (after k (armed n)) .next ≡ ticked (after k (armed n)) .next
-
--- one more, stopping at 255
-abbrev pub saturatingInc : ℕ → ℕ
-saturatingInc n = cond (ltb n 255) (n + 1) 255
-
--- a byte as a wider number is the same number
-pub record Widened (x r : ℕ) : Type 0 where
-  pub same : r ≡ x
-  pub small : r < 256

@@ -1,11 +1,7 @@
-// The one-shot down-counter of the engine (vram_dma.rs, `Countdown`), and the small arithmetic
-// that every other crate shares: choices (`pick`), saturating steps and a sum with its carry (`step`).
-pub mod pick;
-pub mod step;
-
+// The one-shot down-counter of the engine (vram_dma.rs, `Countdown`).
 ghost use mathlib.Core.Path.{_≡_};
 ghost use Rattle.countdown.specs.Countdown.{armed, cleared, activeOf, remainingOf, ticked, expiredOf};
-use step::less_one;
+use arithmetic::step::less_one;
 
 // Armed to a tick count, stepped toward zero, then inert.
 pub struct Countdown(pub u8);

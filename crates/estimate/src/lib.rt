@@ -2,7 +2,7 @@
 // of the engine.
 ghost use mathlib.Core.Path.{_≡_};
 ghost use Rattle.estimate.specs.Estimate.{estimateOf};
-use countdown::step::wide;
+use arithmetic::step::wide;
 
 // M-cycles, from the value for FF55.
 pub fn estimate(value: u8) -> u16

@@ -4,7 +4,7 @@ use native.Mathlib.Omega.{arith}
 use mathlib.Core.Path.{_≡_, refl, _∙_}
 use lib.ListN.{length, drop, replicate}
 use lib.Seq.{sets}
-use Rattle.codec.specs.Number.{bytesAt}
+use Rattle.arithmetic.specs.Number.{bytesAt}
 use Rattle.codec.proofs.Runs.{stored-more, stored-all, stored-over, part-byte, part-length}
 use Rattle.codec.proofs.rest.extra_of.Statement.{statement}
 use Rattle.codec.proofs.rest.extra_of.Tie as tie

@@ -1,12 +1,10 @@
 // Numbers of several bytes, the lowest first; and eight bytes at a time, since a struct's fields are
 // quicker to prove about than an array's elements.
 ghost use mathlib.Core.Path.{_≡_};
-ghost use Prim.Native.Nat.{_+_, _≤_};
 ghost use mathlib.Core.List.{[], _∷_};
-ghost use Rattle.codec.specs.Number.{number};
-ghost use Rattle.codec.specs.Inner.{eightOf, eightAt};
+ghost use Rattle.arithmetic.specs.Number.{number, eightOf};
 
-pub(crate) struct Eight {
+pub struct Eight {
     pub b0: u8,
     pub b1: u8,
     pub b2: u8,
@@ -18,7 +16,7 @@ pub(crate) struct Eight {
 }
 
 // A narrower number takes as many of them as it has bytes.
-pub(crate) fn in_eight(x: u64) -> Eight
+pub fn in_eight(x: u64) -> Eight
     ensures { λ r. ⌜ r ≡ eightOf x ⌝ }
 {
     let x1 = x / 256;
@@ -58,20 +56,4 @@ pub fn of_eight(b0: u8, b1: u8, b2: u8, b3: u8, b4: u8, b5: u8, b6: u8, b7: u8) 
     let low = of_four(b0, b1, b2, b3);
     let high = of_four(b4, b5, b6, b7);
     low as u64 + 4294967296 * (high as u64)
-}
-
-pub(crate) fn eight_at(b: &[u8; 248], k: usize) -> Eight
-    requires { ⌜ k + 8 ≤ 248 ⌝ }
-    ensures { λ r. ⌜ r ≡ eightAt (now (b .entry)) k ⌝ }
-{
-    Eight {
-        b0: b[k],
-        b1: b[k + 1],
-        b2: b[k + 2],
-        b3: b[k + 3],
-        b4: b[k + 4],
-        b5: b[k + 5],
-        b6: b[k + 6],
-        b7: b[k + 7],
-    }
 }

@@ -3,8 +3,7 @@
 ghost use mathlib.Core.Path.{_≡_};
 ghost use Prim.Native.Nat.{_-_, _<_};
 ghost use mathlib.Core.Bool.{cond};
-ghost use Rattle.countdown.specs.Countdown.{Widened, saturatingInc};
-ghost use Rattle.countdown.specs.SmallSteps.{carriedOf};
+ghost use Rattle.arithmetic.specs.SmallSteps.{Widened, saturatingInc, carriedOf};
 
 pub fn less_one(n: u8) -> u8
     ensures { λ r. ⌜ r ≡ n - 1 ⌝ }

@@ -3,8 +3,16 @@ use Prim.Native.Nat.{ℕ, _+_, _-_, _^_, _%_, _<_, _≤_}
 use mathlib.Core.Path.{_≡_}
 use mathlib.Core.Bool.{cond}
 use lib.Dec.{ltb, eqb}
-use Rattle.countdown.specs.Countdown.{saturatingInc}
-use Rattle.countdown.specs.declared.step.Carried.{Carried}
+use Rattle.arithmetic.specs.declared.step.Carried.{Carried}
+
+-- one more, stopping at 255
+abbrev pub saturatingInc : ℕ → ℕ
+saturatingInc n = cond (ltb n 255) (n + 1) 255
+
+-- a byte as a wider number is the same number
+pub record Widened (x r : ℕ) : Type 0 where
+  pub same : r ≡ x
+  pub small : r < 256
 
 -- a sum within 16 bits, and whether it left them: the Rust's `overflowing_add`
 abbrev pub carriedOf : ℕ → ℕ → Carried

@@ -5,8 +5,8 @@ use mathlib.Core.Path.{_≡_, refl}
 use mathlib.Core.Bool.{Bool, true, false, cond}
 use lib.Dec.{ltb, eqb}
 use borrow.Author.Tests.{lt-ltb, le-ltb, ltb-true, ltb-false, eqb-true, eqb-false}
-use Rattle.countdown.proofs.Tests.{ltb-same}
-use Rattle.countdown.specs.SmallSteps.{carriedOf, Carries, Saturates}
+use Rattle.arithmetic.proofs.Tests.{ltb-same}
+use Rattle.arithmetic.specs.SmallSteps.{carriedOf, Carries, Saturates}
 
 module _ (a b : ℕ) (p : a < 0x10000) (q : b < 0x10000) where
   -- a sum that wrapped is below each of its parts, and another is not

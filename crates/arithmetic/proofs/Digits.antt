@@ -6,7 +6,7 @@ use mir.Syntax.{w8}
 use mir.Val.{Fits}
 use native.Mathlib.Nat.{pow-succ'}
 use native.Mathlib.Omega.{arith}
-use Rattle.codec.specs.Number.{digits, number, byteAt, numberAt}
+use Rattle.arithmetic.specs.Number.{digits, number, byteAt, numberAt}
 
 pub low-fits : (x : ℕ) → Fits w8 (x % 256)
 low-fits x = omega arith

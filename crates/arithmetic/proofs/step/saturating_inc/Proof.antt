@@ -1,8 +1,8 @@
 -- `saturating_inc` meets its contract. Assumes nothing.
 use borrow.Author.Tests.{lt-ltb, le-ltb}
 use borrow.Author.Needs.{needs}
-use Rattle.countdown.proofs.step.saturating_inc.Statement.{statement}
-use Rattle.countdown.proofs.step.saturating_inc.Tie as tie
+use Rattle.arithmetic.proofs.step.saturating_inc.Statement.{statement}
+use Rattle.arithmetic.proofs.step.saturating_inc.Tie as tie
 
 add-result : tie.Need-add-result
 add-result c = search needs

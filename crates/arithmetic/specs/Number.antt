@@ -4,11 +4,31 @@ use mathlib.Core.Bool.{Bool}
 use mathlib.Core.List.{List, [], _∷_}
 use lib.ListN.{getD}
 use lib.Dec.{eqb}
+use Rattle.arithmetic.specs.declared.number.Eight.{Eight}
 
 -- a number's n lowest digits of base 256
 abbrev pub digits : ℕ → ℕ → List ℕ
 digits zero x = []
 digits (suc n) x = x % 256 ∷ digits n (x / 256)
+
+-- the kth of a number's `digits`
+abbrev pub nthDigit : ℕ → ℕ → ℕ
+nthDigit zero x = x % 256
+nthDigit (suc k) x = nthDigit k (x / 256)
+
+-- the lowest eight of them, as a struct
+abbrev pub eightOf : ℕ → Eight
+eightOf x =
+    record {
+      b0 = nthDigit 0 x;
+      b1 = nthDigit 1 x;
+      b2 = nthDigit 2 x;
+      b3 = nthDigit 3 x;
+      b4 = nthDigit 4 x;
+      b5 = nthDigit 5 x;
+      b6 = nthDigit 6 x;
+      b7 = nthDigit 7 x;
+    }
 
 -- the number that digits say
 abbrev pub number : List ℕ → ℕ

@@ -1,8 +1,8 @@
 -- `in_eight` meets its contract. Assumes nothing.
 use mathlib.Core.Path.{refl}
-use Rattle.codec.proofs.Digits.{low-fits}
-use Rattle.codec.proofs.number.in_eight.Statement.{statement}
-use Rattle.codec.proofs.number.in_eight.Tie as tie
+use Rattle.arithmetic.proofs.Digits.{low-fits}
+use Rattle.arithmetic.proofs.number.in_eight.Statement.{statement}
+use Rattle.arithmetic.proofs.number.in_eight.Tie as tie
 
 pub in-eight-spec : {M : Type 1} → statement M
 in-eight-spec =

@@ -1,7 +1,7 @@
 -- `overflowing_add16` meets its contract. Assumes nothing.
-use Rattle.countdown.proofs.SmallSteps.{wrapped}
-use Rattle.countdown.proofs.step.overflowing_add16.Statement.{statement}
-use Rattle.countdown.proofs.step.overflowing_add16.Tie as tie
+use Rattle.arithmetic.proofs.SmallSteps.{wrapped}
+use Rattle.arithmetic.proofs.step.overflowing_add16.Statement.{statement}
+use Rattle.arithmetic.proofs.step.overflowing_add16.Tie as tie
 
 returns : tie.Need-returns
 returns c = rw (c .wrapping-add-u16 .ensures, wrapped _ _ (c .before .fits .a .fits) (c .before .fits .b .fits))

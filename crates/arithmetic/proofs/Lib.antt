@@ -1,0 +1,4 @@
+pub mod Tests
+pub mod Choice
+pub mod SmallSteps
+pub mod Digits
