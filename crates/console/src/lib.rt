@@ -1,7 +1,6 @@
 // The console's state, as far as document 01 goes (lib.rs, `Cgb`; console_state.rs; vram.rs).
 pub mod power_on;
 pub mod refusal;
-pub mod same;
 pub mod vram_dma;
 
 use vram_dma::VramDma;

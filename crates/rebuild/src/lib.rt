@@ -1,0 +1,287 @@
+// A part made anew field by field, as it is or with one field anew: the compiler keeps such a part in registers where it
+// would copy it whole. Written by tools/setters from the structs: what some crate uses.
+ghost use mathlib.Core.Path.{_≡_};
+ghost use Rattle.console.specs.Set.{withCursorQuota, withVramDma};
+use console::Cgb;
+use console::CgbConsoleState;
+use console::CgbVram;
+use console::VramDmaClaim;
+use console::WakeLatency;
+use console::vram_dma::HaltArbiter;
+use console::vram_dma::HblankBlock;
+use console::vram_dma::OamContention;
+use console::vram_dma::TransferCursor;
+use console::vram_dma::TransferMode;
+use console::vram_dma::VramDma;
+use countdown::Countdown;
+
+pub fn cursor(s: TransferCursor) -> TransferCursor
+    ensures { λ r. ⌜ r ≡ s ⌝ }
+{
+    let mode = s.mode;
+    TransferCursor {
+        source: s.source,
+        dest: s.dest,
+        mode: mode,
+        remaining: s.remaining,
+        quota: s.quota,
+        escape_byte: s.escape_byte,
+    }
+}
+
+pub fn with_cursor_quota(s: TransferCursor, x: u8) -> TransferCursor
+    ensures { λ r. ⌜ r ≡ withCursorQuota x s ⌝ }
+{
+    let mode = s.mode;
+    TransferCursor {
+        source: s.source,
+        dest: s.dest,
+        mode: mode,
+        remaining: s.remaining,
+        quota: x,
+        escape_byte: s.escape_byte,
+    }
+}
+
+pub fn block(s: HblankBlock) -> HblankBlock
+    ensures { λ r. ⌜ r ≡ s ⌝ }
+{
+    HblankBlock {
+        remaining: s.remaining,
+        start_edge: s.start_edge,
+        taken: s.taken,
+        setup_cells: Countdown(s.setup_cells.0),
+        ready_in: Countdown(s.ready_in.0),
+        seize_falls: s.seize_falls,
+        from_arm: s.from_arm,
+        arm_ready_probation: s.arm_ready_probation,
+    }
+}
+
+pub fn arb(s: HaltArbiter) -> HaltArbiter
+    ensures { λ r. ⌜ r ≡ s ⌝ }
+{
+    HaltArbiter {
+        pend: s.pend,
+        pend_from_arm: s.pend_from_arm,
+        armed_this_fall: s.armed_this_fall,
+        halted_falls: s.halted_falls,
+        prev_view_hblank: s.prev_view_hblank,
+        pend_age: s.pend_age,
+        pend_granted: s.pend_granted,
+        wake_tenure: Countdown(s.wake_tenure.0),
+        park_waits_for_fetch: s.park_waits_for_fetch,
+        idle_claim: s.idle_claim,
+        halt_wake_blind: Countdown(s.halt_wake_blind.0),
+        prev_cpu_halted: s.prev_cpu_halted,
+        grant_counted: s.grant_counted,
+        wake_pend_blind: Countdown(s.wake_pend_blind.0),
+        granted_ahead: s.granted_ahead,
+    }
+}
+
+pub fn oam(s: OamContention) -> OamContention
+    ensures { λ r. ⌜ r ≡ s ⌝ }
+{
+    OamContention {
+        was_transferring: s.was_transferring,
+        contended: s.contended,
+    }
+}
+
+pub fn dma(s: VramDma) -> VramDma
+    ensures { λ r. ⌜ r ≡ s ⌝ }
+{
+    let cursor = s.cursor;
+    let cursor_mode = cursor.mode;
+    VramDma {
+        cursor: TransferCursor {
+            source: s.cursor.source,
+            dest: s.cursor.dest,
+            mode: cursor_mode,
+            remaining: s.cursor.remaining,
+            quota: s.cursor.quota,
+            escape_byte: s.cursor.escape_byte,
+        },
+        block: HblankBlock {
+            remaining: s.block.remaining,
+            start_edge: s.block.start_edge,
+            taken: s.block.taken,
+            setup_cells: Countdown(s.block.setup_cells.0),
+            ready_in: Countdown(s.block.ready_in.0),
+            seize_falls: s.block.seize_falls,
+            from_arm: s.block.from_arm,
+            arm_ready_probation: s.block.arm_ready_probation,
+        },
+        arb: HaltArbiter {
+            pend: s.arb.pend,
+            pend_from_arm: s.arb.pend_from_arm,
+            armed_this_fall: s.arb.armed_this_fall,
+            halted_falls: s.arb.halted_falls,
+            prev_view_hblank: s.arb.prev_view_hblank,
+            pend_age: s.arb.pend_age,
+            pend_granted: s.arb.pend_granted,
+            wake_tenure: Countdown(s.arb.wake_tenure.0),
+            park_waits_for_fetch: s.arb.park_waits_for_fetch,
+            idle_claim: s.arb.idle_claim,
+            halt_wake_blind: Countdown(s.arb.halt_wake_blind.0),
+            prev_cpu_halted: s.arb.prev_cpu_halted,
+            grant_counted: s.arb.grant_counted,
+            wake_pend_blind: Countdown(s.arb.wake_pend_blind.0),
+            granted_ahead: s.arb.granted_ahead,
+        },
+        oam: OamContention {
+            was_transferring: s.oam.was_transferring,
+            contended: s.oam.contended,
+        },
+    }
+}
+
+pub fn cgb(s: Cgb) -> Cgb
+    ensures { λ r. ⌜ r ≡ s ⌝ }
+{
+    let vram_dma = s.vram_dma;
+    let vram_dma_cursor = vram_dma.cursor;
+    let vram_dma_cursor_mode = vram_dma_cursor.mode;
+    let speed_switch_wake_latency = s.speed_switch_wake_latency;
+    let extra_oam = s.extra_oam;
+    Cgb {
+        svbk: s.svbk,
+        key1_armed: s.key1_armed,
+        double_speed: s.double_speed,
+        dmg_compat: s.dmg_compat,
+        vram_dma: VramDma {
+            cursor: TransferCursor {
+                source: s.vram_dma.cursor.source,
+                dest: s.vram_dma.cursor.dest,
+                mode: vram_dma_cursor_mode,
+                remaining: s.vram_dma.cursor.remaining,
+                quota: s.vram_dma.cursor.quota,
+                escape_byte: s.vram_dma.cursor.escape_byte,
+            },
+            block: HblankBlock {
+                remaining: s.vram_dma.block.remaining,
+                start_edge: s.vram_dma.block.start_edge,
+                taken: s.vram_dma.block.taken,
+                setup_cells: Countdown(s.vram_dma.block.setup_cells.0),
+                ready_in: Countdown(s.vram_dma.block.ready_in.0),
+                seize_falls: s.vram_dma.block.seize_falls,
+                from_arm: s.vram_dma.block.from_arm,
+                arm_ready_probation: s.vram_dma.block.arm_ready_probation,
+            },
+            arb: HaltArbiter {
+                pend: s.vram_dma.arb.pend,
+                pend_from_arm: s.vram_dma.arb.pend_from_arm,
+                armed_this_fall: s.vram_dma.arb.armed_this_fall,
+                halted_falls: s.vram_dma.arb.halted_falls,
+                prev_view_hblank: s.vram_dma.arb.prev_view_hblank,
+                pend_age: s.vram_dma.arb.pend_age,
+                pend_granted: s.vram_dma.arb.pend_granted,
+                wake_tenure: Countdown(s.vram_dma.arb.wake_tenure.0),
+                park_waits_for_fetch: s.vram_dma.arb.park_waits_for_fetch,
+                idle_claim: s.vram_dma.arb.idle_claim,
+                halt_wake_blind: Countdown(s.vram_dma.arb.halt_wake_blind.0),
+                prev_cpu_halted: s.vram_dma.arb.prev_cpu_halted,
+                grant_counted: s.vram_dma.arb.grant_counted,
+                wake_pend_blind: Countdown(s.vram_dma.arb.wake_pend_blind.0),
+                granted_ahead: s.vram_dma.arb.granted_ahead,
+            },
+            oam: OamContention {
+                was_transferring: s.vram_dma.oam.was_transferring,
+                contended: s.vram_dma.oam.contended,
+            },
+        },
+        speed_switch_blackout: s.speed_switch_blackout,
+        speed_switch_wake_latency: speed_switch_wake_latency,
+        switch_relock_debit: s.switch_relock_debit,
+        ff72: s.ff72,
+        ff73: s.ff73,
+        ff74: s.ff74,
+        ff75: s.ff75,
+        extra_oam: extra_oam,
+        vram: CgbVram {
+            selected: s.vram.selected,
+        },
+        console_state: CgbConsoleState {
+            blackout_anchor: s.console_state.blackout_anchor,
+            vram_dma_claim: VramDmaClaim {
+                committed: s.console_state.vram_dma_claim.committed,
+                standing: s.console_state.vram_dma_claim.standing,
+            },
+        },
+    }
+}
+
+pub fn with_vram_dma(s: Cgb, x: VramDma) -> Cgb
+    ensures { λ r. ⌜ r ≡ withVramDma x s ⌝ }
+{
+    let cursor = x.cursor;
+    let cursor_mode = cursor.mode;
+    let speed_switch_wake_latency = s.speed_switch_wake_latency;
+    let extra_oam = s.extra_oam;
+    Cgb {
+        svbk: s.svbk,
+        key1_armed: s.key1_armed,
+        double_speed: s.double_speed,
+        dmg_compat: s.dmg_compat,
+        vram_dma: VramDma {
+            cursor: TransferCursor {
+                source: x.cursor.source,
+                dest: x.cursor.dest,
+                mode: cursor_mode,
+                remaining: x.cursor.remaining,
+                quota: x.cursor.quota,
+                escape_byte: x.cursor.escape_byte,
+            },
+            block: HblankBlock {
+                remaining: x.block.remaining,
+                start_edge: x.block.start_edge,
+                taken: x.block.taken,
+                setup_cells: Countdown(x.block.setup_cells.0),
+                ready_in: Countdown(x.block.ready_in.0),
+                seize_falls: x.block.seize_falls,
+                from_arm: x.block.from_arm,
+                arm_ready_probation: x.block.arm_ready_probation,
+            },
+            arb: HaltArbiter {
+                pend: x.arb.pend,
+                pend_from_arm: x.arb.pend_from_arm,
+                armed_this_fall: x.arb.armed_this_fall,
+                halted_falls: x.arb.halted_falls,
+                prev_view_hblank: x.arb.prev_view_hblank,
+                pend_age: x.arb.pend_age,
+                pend_granted: x.arb.pend_granted,
+                wake_tenure: Countdown(x.arb.wake_tenure.0),
+                park_waits_for_fetch: x.arb.park_waits_for_fetch,
+                idle_claim: x.arb.idle_claim,
+                halt_wake_blind: Countdown(x.arb.halt_wake_blind.0),
+                prev_cpu_halted: x.arb.prev_cpu_halted,
+                grant_counted: x.arb.grant_counted,
+                wake_pend_blind: Countdown(x.arb.wake_pend_blind.0),
+                granted_ahead: x.arb.granted_ahead,
+            },
+            oam: OamContention {
+                was_transferring: x.oam.was_transferring,
+                contended: x.oam.contended,
+            },
+        },
+        speed_switch_blackout: s.speed_switch_blackout,
+        speed_switch_wake_latency: speed_switch_wake_latency,
+        switch_relock_debit: s.switch_relock_debit,
+        ff72: s.ff72,
+        ff73: s.ff73,
+        ff74: s.ff74,
+        ff75: s.ff75,
+        extra_oam: extra_oam,
+        vram: CgbVram {
+            selected: s.vram.selected,
+        },
+        console_state: CgbConsoleState {
+            blackout_anchor: s.console_state.blackout_anchor,
+            vram_dma_claim: VramDmaClaim {
+                committed: s.console_state.vram_dma_claim.committed,
+                standing: s.console_state.vram_dma_claim.standing,
+            },
+        },
+    }
+}
