@@ -15,37 +15,44 @@ abbrev pub anyOf : List Bool → Bool
 anyOf [] = false
 anyOf (b ∷ bs) = b || anyOf bs
 
--- the six tests, in the paper's order
+-- the tests of the engine: its quota, its block, what is left, and the mode where nothing is
+abbrev pub engineTests : VramDma → List Bool
+engineTests d =
+    ltb 2 (d .cursor .quota) ∷
+    ltb 16 (d .block .remaining) ∷
+    ltb 2048 (d .cursor .remaining) ∷
+    (eqb (d .cursor .remaining) 0 && not (isIdle (d .cursor .mode))) ∷ []
+
+-- the tests of the bank registers: FF70, FF4F
+abbrev pub bankTests : ℕ → ℕ → List Bool
+bankTests svbk selected = ltb 7 svbk ∷ ltb 1 selected ∷ []
+
+-- part by part: one of its tests holds
 abbrev pub unreachedTests : Cgb → List Bool
-unreachedTests s =
-    ltb 2 (s .«vram_dma» .cursor .quota) ∷
-    ltb 16 (s .«vram_dma» .block .remaining) ∷
-    ltb 2048 (s .«vram_dma» .cursor .remaining) ∷
-    ltb 7 (s .svbk) ∷
-    ltb 1 (s .vram .selected) ∷
-    (eqb (s .«vram_dma» .cursor .remaining) 0 && not (isIdle (s .«vram_dma» .cursor .mode))) ∷ []
+unreachedTests s = anyOf (engineTests (s .«vram_dma»)) ∷ anyOf (bankTests (s .svbk) (s .vram .selected)) ∷ []
 
 unfoldable pub unreached : Cgb → Bool
 unreached s = anyOf (unreachedTests s)
 
--- the same as facts, of the six quantities that are tested
-pub record Within (q b l v k : ℕ) (m : TransferMode) : Type 0 where
+-- the same as facts, of the quantities that a part's tests look at
+pub record EngineWithin (q b l : ℕ) (m : TransferMode) : Type 0 where
   pub quota : q ≤ 2
   pub block : b ≤ 16
   pub left : l ≤ 2048
+  pub idle : l ≡ 0 → isIdle m ≡ true
+
+abbrev pub Sound : VramDma → Type 0
+Sound d = EngineWithin (d .cursor .quota) (d .block .remaining) (d .cursor .remaining) (d .cursor .mode)
+
+pub record BanksWithin (v k : ℕ) : Type 0 where
   pub svbk : v ≤ 7
   pub bank : k ≤ 1
-  pub idle : l ≡ 0 → isIdle m ≡ true
+
+-- each part's facts, by its name
+pub record Parts (Engine Banks : Type 0) : Type 0 where
+  pub engine : Engine
+  pub banks : Banks
 
 -- what holds of a state exactly where refusal 7 does not come
 abbrev pub Reached : Cgb → Type 0
-Reached s =
-    Within (s .«vram_dma» .cursor .quota) (s .«vram_dma» .block .remaining) (s .«vram_dma» .cursor .remaining) (s .svbk)
-    (s .vram .selected) (s .«vram_dma» .cursor .mode)
-
--- the part of it that stands in `VramDma`: four of the six
-pub record Sound (d : VramDma) : Type 0 where
-  pub quota : d .cursor .quota ≤ 2
-  pub block : d .block .remaining ≤ 16
-  pub left : d .cursor .remaining ≤ 2048
-  pub idle : d .cursor .remaining ≡ 0 → isIdle (d .cursor .mode) ≡ true
+Reached s = Parts (Sound (s .«vram_dma»)) (BanksWithin (s .svbk) (s .vram .selected))

@@ -1,4 +1,4 @@
--- `Cgb::unreached` meets its contract: the code's chain of tests is the list of the six. Assumes nothing.
+-- `Cgb::unreached` meets its contract: it asks each part in turn. Assumes nothing.
 use mathlib.Core.Bool.{or-assoc, or-false}
 use Rattle.console.specs.Reached.{unreached}
 use Rattle.console.proofs.Cgb.unreached.Statement.{statement}
@@ -6,7 +6,7 @@ use Rattle.console.proofs.Cgb.unreached.Tie as tie
 
 returns : tie.Need-returns
 unfolding unreached
-returns c = simp (or-assoc, or-false, c .before .before .before .before .before .before .is-idle .ensures)
+returns c = simp (or-assoc, or-false, c .bank-unreached .ensures, c .before .engine-unreached .ensures)
 
 pub unreached-spec : {M : Type 1} → statement M
-unreached-spec = tie.close (tie.spec (λ _ _. tt) returns)
+unreached-spec = tie.close (tie.spec (λ _ _. tt) (λ _ _. tt) returns)
