@@ -5,10 +5,10 @@ use mathlib.Core.List.{List}
 use lib.Dec.{lit<, eqb}
 use Rattle.arithmetic.proofs.Digits.{number-fits}
 use Rattle.codec.proofs.Runs.{part-length}
+use Rattle.codec.proofs.CursorBack.{cursor-fits}
+use Rattle.codec.proofs.BlockBack.{block-fits}
+use Rattle.codec.proofs.ArbBack.{arb-fits}
 use Rattle.arithmetic.specs.Number.{byteAt, bytesAt}
-use Rattle.codec.specs.Cursor.{cursorOf}
-use Rattle.codec.specs.Block.{blockOf}
-use Rattle.codec.specs.Arb.{arbOf}
 use Rattle.codec.specs.Rest.{latencyValue, consoleOf, restOf}
 use Rattle.codec.specs.Codec.{dmaOf, stateOf}
 use Rattle.codec.specs.Fits.{Bytes, Fits}
@@ -25,34 +25,13 @@ part-small b h k (suc n) (suc j) = part-small b h (suc k) n j
 
 module _ (b : List ℕ) (h : Bytes 248 b) where
   pub state-within : Fits (stateOf b)
-  unfolding stateOf dmaOf cursorOf blockOf arbOf restOf consoleOf
+  unfolding stateOf dmaOf restOf consoleOf
   state-within =
       let at = h .small in
       record {
-        cursor =
-            record {
-              source = number-fits 2 b 0 at;
-              dest = number-fits 2 b 2 at;
-              remaining = number-fits 2 b 5 at;
-              quota = at 7;
-            };
-        block =
-            record {
-              remaining = at 9;
-              «start_edge» = number-fits 8 b 10 at;
-              «setup_cells» = at 19;
-              «ready_in» = at 20;
-              «seize_falls» = at 21;
-            };
-        arb =
-            record {
-              «halted_falls» = at 27;
-              «pend_age» = at 29;
-              «wake_tenure» = at 31;
-              «halt_wake_blind» = at 34;
-              «wake_pend_blind» = at 37;
-              «granted_ahead» = at 38;
-            };
+        cursor = cursor-fits b at;
+        block = block-fits b at;
+        arb = arb-fits b at;
         svbk = at 41;
         «speed_switch_blackout» = number-fits 4 b 45 at;
         «speed_switch_wake_latency» = latency (eqb (byteAt b 49) 0) (byteAt b 50) (at 50);

@@ -1,5 +1,11 @@
 pub mod Runs
+pub mod Parts
 pub mod Laid
+pub mod Fields
+pub mod CursorBack
+pub mod BlockBack
+pub mod ArbBack
+pub mod OamBack
 pub mod Equal
 pub mod Back
 pub mod Bounds

@@ -13,17 +13,24 @@ use Rattle.codec.specs.declared.Decoded.{Decoded}
 use Rattle.console.specs.declared.Cgb.{Cgb}
 use Rattle.console.specs.declared.vram_dma.VramDma.{VramDma}
 
--- the parts with no gap; bytes 91 to 247 are spare and zero
+abbrev pub joined : List (List ℕ) → List ℕ
+joined [] = []
+joined (p ∷ ps) = p ++ joined ps
+
+-- the parts in their order
+abbrev pub partsOf : Cgb → List (List ℕ)
+partsOf s =
+    cursorBytes (s .«vram_dma» .cursor) ∷
+    blockBytes (s .«vram_dma» .block) ∷
+    arbBytes (s .«vram_dma» .arb) ∷
+    oamBytes (s .«vram_dma» .oam) ∷
+    registerBytes s ∷
+    s .«extra_oam» ∷
+    bankBytes (s .vram .selected) (s .«console_state») ∷ []
+
+-- with no gap; bytes 91 to 247 are spare and zero
 unfoldable pub encodeOf : Cgb → List ℕ
-encodeOf s =
-    cursorBytes (s .«vram_dma» .cursor)
-    ++ blockBytes (s .«vram_dma» .block)
-    ++ arbBytes (s .«vram_dma» .arb)
-    ++ oamBytes (s .«vram_dma» .oam)
-    ++ registerBytes s
-    ++ s .«extra_oam»
-    ++ bankBytes (s .vram .selected) (s .«console_state»)
-    ++ replicate 157 0
+encodeOf s = joined (partsOf s) ++ replicate 157 0
 
 unfoldable pub dmaOf : List ℕ → VramDma
 dmaOf b = record { cursor = cursorOf b; block = blockOf b; arb = arbOf b; oam = oamOf b }

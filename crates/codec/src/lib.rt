@@ -5,10 +5,10 @@ mod cursor;
 mod oam;
 mod rest;
 mod run;
+mod widths;
 
 ghost use mathlib.Core.Path.{_≡_};
 ghost use Rattle.codec.specs.Codec.{encodeOf, dmaOf, stateOf, decodeOf};
-ghost use Rattle.codec.specs.Fits.{Fits};
 use arb::arb_of;
 use arb::put_arb;
 use block::block_of;
@@ -22,7 +22,6 @@ use oam::oam_of;
 use oam::put_oam;
 use rest::console_of;
 use rest::extra_of;
-use rest::into_tagged;
 use rest::latency_of;
 use rest::put_bank;
 use rest::put_extra;
@@ -98,13 +97,4 @@ pub fn decode(bytes: [u8; 248]) -> Decoded
         valid: same(encode(state), bytes),
         state: state,
     }
-}
-
-// What it ensures holds of every state that code can hold, so the laws of the round trip
-// (specs/RoundTrip.antt) speak of all of them.
-fn within(state: Cgb)
-    ensures { λ _. ⌜ Fits state ⌝ }
-{
-    let l = state.speed_switch_wake_latency;
-    let _latency = into_tagged(l);
 }

@@ -1,11 +1,10 @@
 -- `encode` meets its contract: the parts, stored one after another into zeros, stand one after another. Assumes nothing.
-use Rattle.codec.specs.Codec.{encodeOf}
-use Rattle.codec.proofs.Laid.{laid}
+use Rattle.codec.proofs.Laid.{sized, laid}
 use Rattle.codec.proofs.encode.Statement.{statement}
 use Rattle.codec.proofs.encode.Tie as tie
 
 returns : tie.Need-returns
-unfolding encodeOf
+unfolding sized
 returns c =
     let c6 = c .before .before .before in
     let c5 = c6 .before .before .before in

@@ -8,12 +8,16 @@ use Rattle.codec.proofs.state_of.Tie as tie
 returns : tie.Need-returns
 unfolding stateOf restOf
 returns c =
+    let c4 = c .before .before in
+    let c3 = c4 .before in
+    let c2 = c3 .before in
+    let c1 = c2 .before in
     rw (
       c .console-of .ensures,
-      c .before .before .extra-of .ensures,
-      c .before .before .before .latency-of .ensures,
-      c .before .before .before .before .dma-of .ensures,
-      c .before .before .before .before .before .registers-of .ensures,
+      c4 .extra-of .ensures,
+      c3 .latency-of .ensures,
+      c2 .dma-of .ensures,
+      c1 .registers-of .ensures,
     )
 
 pub state-of-spec : {M : Type 1} → statement M

@@ -1,11 +1,11 @@
--- `within` meets its contract: each bound is what the field's type says. Of a struct, `.1 .1` is the list of its fields; of a
+-- `every_state_fits` meets its contract: each bound is what the field's type says. Of a struct, `.1 .1` is the list of its fields; of a
 -- number, `.1` is its bound. The latency's is that of the byte it is written as. Assumes nothing.
 use borrow.Author.Needs.{elem-fits-field, length-unmapped}
 use mathlib.Core.Path.{ap, subst}
 use Prim.Native.Nat.{ℕ, _<_}
 use mir.Syntax.{w8}
-use Rattle.codec.proofs.within.Statement.{statement}
-use Rattle.codec.proofs.within.Tie as tie
+use Rattle.codec.proofs.widths.every_state_fits.Statement.{statement}
+use Rattle.codec.proofs.widths.every_state_fits.Tie as tie
 
 returns : tie.Need-returns
 returns c =
@@ -49,5 +49,5 @@ returns c =
       «blackout_anchor» = e .1 .1 .0 .1 .1 .0 .1;
     }
 
-pub within-spec : {M : Type 1} → statement M
-within-spec = tie.close (tie.spec (λ _ _. tt) returns)
+pub every-state-fits-spec : {M : Type 1} → statement M
+every-state-fits-spec = tie.close (tie.spec (λ _ _. tt) returns)
