@@ -1,12 +1,10 @@
 pub mod Runs
 pub mod Parts
-pub mod Laid
 pub mod Fields
 pub mod CursorBack
 pub mod BlockBack
 pub mod ArbBack
 pub mod OamBack
 pub mod Equal
-pub mod Back
-pub mod Bounds
+pub mod State
 pub mod RoundTrip

@@ -4,11 +4,12 @@ use mathlib.Core.Bool.{Bool, true, false, _&&_}
 use mathlib.Core.List.{List, [], _∷_, _++_}
 use lib.ListN.{replicate, drop}
 use lib.Dec.{eqb}
+use Rattle.arithmetic.specs.Number.{byteAt, bytesAt, numberAt, flagAt}
 use Rattle.codec.specs.Cursor.{cursorBytes, cursorOf}
 use Rattle.codec.specs.Block.{blockBytes, blockOf}
 use Rattle.codec.specs.Arb.{arbBytes, arbOf}
 use Rattle.codec.specs.Oam.{oamBytes, oamOf}
-use Rattle.codec.specs.Rest.{registerBytes, bankBytes, restOf}
+use Rattle.codec.specs.Rest.{latencyOf, registerBytes, bankBytes, consoleOf}
 use Rattle.codec.specs.declared.Decoded.{Decoded}
 use Rattle.console.specs.declared.Cgb.{Cgb}
 use Rattle.console.specs.declared.vram_dma.VramDma.{VramDma}
@@ -37,7 +38,24 @@ dmaOf b = record { cursor = cursorOf b; block = blockOf b; arb = arbOf b; oam = 
 
 -- what the fields' bytes read as
 unfoldable pub stateOf : List ℕ → Cgb
-stateOf b = restOf b (dmaOf b)
+stateOf b =
+    record {
+      svbk = byteAt b 41;
+      «key1_armed» = flagAt b 42;
+      «double_speed» = flagAt b 43;
+      «dmg_compat» = flagAt b 44;
+      «vram_dma» = dmaOf b;
+      «speed_switch_blackout» = numberAt b 45 4;
+      «speed_switch_wake_latency» = latencyOf (byteAt b 49) (byteAt b 50);
+      «switch_relock_debit» = flagAt b 51;
+      ff72 = byteAt b 52;
+      ff73 = byteAt b 53;
+      ff74 = byteAt b 54;
+      ff75 = byteAt b 55;
+      «extra_oam» = bytesAt b 56 24;
+      vram = record { selected = byteAt b 80 };
+      «console_state» = consoleOf b;
+    }
 
 abbrev pub sameBytes : List ℕ → List ℕ → Bool
 sameBytes [] [] = true

@@ -4,12 +4,11 @@ use mathlib.Core.Bool.{cond}
 use mathlib.Core.List.{List, [], _∷_, _++_}
 use lib.Dec.{eqb}
 use mir.Val.{boolByte}
-use Rattle.arithmetic.specs.Number.{digits, byteAt, numberAt, flagAt, bytesAt}
+use Rattle.arithmetic.specs.Number.{digits, numberAt, flagAt}
 use Rattle.console.specs.declared.Cgb.{Cgb}
 use Rattle.console.specs.declared.CgbConsoleState.{CgbConsoleState}
 use Rattle.console.specs.declared.WakeLatency.{WakeLatency}
 use Rattle.console.specs.declared.WakeLatency.the-variants.{None, Some}
-use Rattle.console.specs.declared.vram_dma.VramDma.{VramDma}
 
 abbrev pub latencyTag : WakeLatency → ℕ
 latencyTag None = 0
@@ -51,25 +50,4 @@ consoleOf b =
     record {
       «blackout_anchor» = numberAt b 81 8;
       «vram_dma_claim» = record { committed = flagAt b 89; standing = flagAt b 90 };
-    }
-
--- the console, with what the transfer engine's bytes read as
-unfoldable pub restOf : List ℕ → VramDma → Cgb
-restOf b dma =
-    record {
-      svbk = byteAt b 41;
-      «key1_armed» = flagAt b 42;
-      «double_speed» = flagAt b 43;
-      «dmg_compat» = flagAt b 44;
-      «vram_dma» = dma;
-      «speed_switch_blackout» = numberAt b 45 4;
-      «speed_switch_wake_latency» = latencyOf (byteAt b 49) (byteAt b 50);
-      «switch_relock_debit» = flagAt b 51;
-      ff72 = byteAt b 52;
-      ff73 = byteAt b 53;
-      ff74 = byteAt b 54;
-      ff75 = byteAt b 55;
-      «extra_oam» = bytesAt b 56 24;
-      vram = record { selected = byteAt b 80 };
-      «console_state» = consoleOf b;
     }

@@ -1,5 +1,5 @@
 -- `encode` meets its contract: the parts, stored one after another into zeros, stand one after another. Assumes nothing.
-use Rattle.codec.proofs.Laid.{sized, laid}
+use Rattle.codec.proofs.State.{sized, laid}
 use Rattle.codec.proofs.encode.Statement.{statement}
 use Rattle.codec.proofs.encode.Tie as tie
 

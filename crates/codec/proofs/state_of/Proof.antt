@@ -1,12 +1,11 @@
 -- `state_of` meets its contract. Assumes nothing.
 use lib.Dec.{lit<}
-use Rattle.codec.specs.Rest.{restOf}
 use Rattle.codec.specs.Codec.{stateOf}
 use Rattle.codec.proofs.state_of.Statement.{statement}
 use Rattle.codec.proofs.state_of.Tie as tie
 
 returns : tie.Need-returns
-unfolding stateOf restOf
+unfolding stateOf
 returns c =
     let c4 = c .before .before in
     let c3 = c4 .before in

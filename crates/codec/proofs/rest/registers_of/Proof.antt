@@ -1,12 +1,11 @@
 -- `registers_of` meets its contract. Assumes nothing.
 use lib.Dec.{lit≤}
-use Rattle.codec.specs.Rest.{restOf}
 use Rattle.codec.specs.Codec.{stateOf}
 use Rattle.codec.proofs.rest.registers_of.Statement.{statement}
 use Rattle.codec.proofs.rest.registers_of.Tie as tie
 
 returns : tie.Need-returns
-unfolding stateOf restOf
+unfolding stateOf
 returns c =
     rw (
       c .before .of-four .ensures,
