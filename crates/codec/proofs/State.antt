@@ -55,6 +55,16 @@ module _ (s : Cgb) (e : length (s .«extra_oam») ≡ 24) where
   unfolding encodeOf sized
   stands k = parts.stands sized (replicate 157 0) k
 
+-- the parts in front of the extra OAM stand whatever its length
+module _ (s : Cgb) where
+  pub cursor-stands : bytesAt (encodeOf s) 0 9 ≡ cursorBytes (s .«vram_dma» .cursor)
+  unfolding encodeOf cursorBytes
+  cursor-stands = refl
+
+  pub registers-stand : bytesAt (encodeOf s) 41 15 ≡ registerBytes s
+  unfolding encodeOf cursorBytes blockBytes arbBytes oamBytes registerBytes
+  registers-stand = refl
+
 -- ---- read back
 
 latency-back : (l : WakeLatency) → latencyOf (latencyTag l) (latencyValue l) ≡ l
