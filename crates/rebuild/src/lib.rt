@@ -1,7 +1,14 @@
 // A part made anew field by field, as it is or with one field anew: the compiler keeps such a part in registers where it
 // would copy it whole. Written by tools/setters from the structs: what some crate uses.
 ghost use mathlib.Core.Path.{_≡_};
+<<<<<<< .merge_file_ae1BUS
 ghost use Rattle.console.specs.Set.{withCursorQuota, withVramDma};
+=======
+ghost use Rattle.console.specs.Set.{withCursorQuota};
+ghost use Rattle.console.specs.Set.{withVramDma};
+ghost use Rattle.console.specs.Set.{withSpeedSwitchBlackout};
+ghost use Rattle.console.specs.Set.{withSpeedSwitchWakeLatency};
+>>>>>>> .merge_file_agLMwL
 use console::Cgb;
 use console::CgbConsoleState;
 use console::CgbVram;
