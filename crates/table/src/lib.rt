@@ -1,0 +1,1 @@
+// Tables by number: definitions and laws, no code. A `match` on a number is such a table.
