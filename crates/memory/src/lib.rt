@@ -1,5 +1,7 @@
 // Lent memory: the length that document 01 gives a slice, and access that is total, so that no
 // caller needs to know a length.
+pub mod wram;
+
 ghost use mathlib.Core.Path.{_≡_};
 ghost use lib.ListN.{getD, set};
 

@@ -1,10 +1,4 @@
 pub mod Ranges
 pub mod Places
-pub mod Locks
-pub mod Key1
-pub mod Mapped
-pub mod Keeps
-pub mod Steps
-pub mod Named
+pub mod Ram
 pub mod MapSteps
-pub mod CompatSteps

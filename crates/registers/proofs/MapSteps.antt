@@ -1,159 +1,177 @@
--- The map does at each address what document 01 says of it (specs, `MapSteps`, `RegisterSteps`). Assumes nothing.
+-- The map is at each address what document 01 says of it (specs, `MapSteps`, `RamSteps`). Assumes nothing.
 use Prim.Native.Nat.{ℕ, zero, suc, _+_, _-_, _*_, _/_, _%_, _<_, _≤_}
 use native.Mathlib.Omega.{arith}
 use mathlib.Core.Path.{_≡_, refl, sym, ap, subst, _∙_}
-use mathlib.Core.Bool.{true, false, and-false, false≢true}
-use mathlib.Core.List.{List}
+use mathlib.Core.Bool.{Bool, true, false, false≢true}
 use mathlib.Core.Logic.{_↔_, _⊎_, inl, inr, ⊎-elim}
-use lib.ListN.{getD, set}
 use borrow.Author.Tests.{eq-eqb, ne-eqb}
-use Rattle.console.specs.Set.{withExtraOam}
-use Rattle.console.specs.declared.Cgb.{Cgb}
-use Rattle.transfer.proofs.Conditions.{when-false}
-use Rattle.registers.specs.Map.{Place, workRam, bankedRam, extraOam, register, unmapped, bankedIndex, extraOamIndex, placeOf, isMapped, locksAt}
-use Rattle.registers.specs.Read.{mapReadOf}
-use Rattle.registers.specs.Write.{wramAt, wramAfter, storedOf, mapWriteOf}
-use Rattle.registers.specs.MapSteps.{Mapped, Names, MapSteps, RegisterReads, RegisterWrites, RegisterSteps}
-use Rattle.registers.specs.declared.MapRead.the-variants.{Byte, Unmapped}
-use Rattle.registers.specs.declared.WriteInput.{WriteInput}
-use Rattle.registers.proofs.Places.{at-c, at-d, at-e, at-f, at-oam, below, between, above}
-use Rattle.registers.proofs.Named.{side, range, at-registers}
+use Rattle.memory.specs.Wram.{bankedIndex}
+use Rattle.table.specs.Table.{_▸_}
+use Rattle.table.proofs.Table.{each}
+use Rattle.registers.specs.Map.{Place, workRam, bankedRam, extraOam, register, unmapped, registers, registerOf, placeOf, readable, writable, locks, locksAt}
+use Rattle.registers.specs.Ram.{wramIndexOf}
+use Rattle.registers.specs.MapSteps.{Mapped, LocksWrite, MapSteps, RamSteps}
+use Rattle.registers.specs.declared.WramIndex.the-variants.{At, Elsewhere}
+use Rattle.registers.proofs.Places.{at-place, at-c, at-d, at-e, at-f, at-oam}
+use Rattle.registers.proofs.Ram as ram
+use Rattle.registers.proofs.Ranges.{side, range}
 
 module _ (a : ℕ) where
+  -- what an address in the map gives
+  abbrev Told : Place → Type 0
+  Told q = readable q ≡ true → Mapped a
+
+  pointer : 0xFF51 ≤ a → a ≤ 0xFF55 → Mapped a
+  pointer p q = inr (inr (inr (inr (inr (inl (p, q))))))
+
+  scratch : 0xFF72 ≤ a → a ≤ 0xFF75 → Mapped a
+  scratch p q = inr (inr (inr (inr (inr (inr (inr (p, q)))))))
+
+  named : Told (registerOf a)
+  named =
+      each Told a registers unmapped
+      ((λ e h. inr (inr (inl e))) ▸
+      (λ e h. inr (inr (inr (inl e)))) ▸
+      (λ e h. inr (inr (inr (inr (inl e))))) ▸
+      (λ e h. pointer (omega arith) (omega arith)) ▸
+      (λ e h. pointer (omega arith) (omega arith)) ▸
+      (λ e h. pointer (omega arith) (omega arith)) ▸
+      (λ e h. pointer (omega arith) (omega arith)) ▸
+      (λ e h. pointer (omega arith) (omega arith)) ▸
+      (λ e h. inr (inr (inr (inr (inr (inr (inl e))))))) ▸
+      (λ e h. scratch (omega arith) (omega arith)) ▸
+      (λ e h. scratch (omega arith) (omega arith)) ▸
+      (λ e h. scratch (omega arith) (omega arith)) ▸
+      (λ e h. scratch (omega arith) (omega arith)) ▸
+      tt)
+      (λ h. absurd (false≢true h))
+
   -- an address in the map is in one of the paper's ranges
-  there : isMapped (placeOf a) ≡ true → Mapped a
-  there m = ⊎-elim (λ p. nowhere (below a p)) from-c (side a 0xC000)
+  there : Told (placeOf a)
+  there =
+      at-place Told a
+      (λ p q h. inl (p, omega arith))
+      (λ p q h. inl (omega arith, omega arith))
+      (λ p q h. inl (omega arith, omega arith))
+      (λ p q h. inl (omega arith, q))
+      (λ p q h. inr (inl (p, q)))
+      named
+
+  -- work RAM is in the map
+  in-ram : 0xC000 ≤ a → a ≤ 0xFDFF → readable (placeOf a) ≡ true
+  in-ram p q = ⊎-elim (λ h. rw (at-c a p (omega arith))) from-d (side a 0xD000)
     where
-      nowhere : placeOf a ≡ unmapped → Mapped a
-      nowhere e = absurd (false≢true (sym (ap isMapped e) ∙ m))
-
-      registers : 0xFF00 ≤ a → Mapped a
-      registers p =
-          at-registers (λ q. isMapped q ≡ true → Mapped a) a
-          (λ e h. inr (inr (inl e)))
-          (λ e h. inr (inr (inr (inl e))))
-          (λ e h. inr (inr (inr (inr (inl e)))))
-          (λ e h. inr (inr (inr (inr (inr (inl (omega arith, omega arith)))))))
-          (λ e h. inr (inr (inr (inr (inr (inl (omega arith, omega arith)))))))
-          (λ e h. inr (inr (inr (inr (inr (inl (omega arith, omega arith)))))))
-          (λ e h. inr (inr (inr (inr (inr (inl (omega arith, omega arith)))))))
-          (λ e h. inr (inr (inr (inr (inr (inl (omega arith, omega arith)))))))
-          (λ e h. inr (inr (inr (inr (inr (inr (inl e)))))))
-          (λ e h. inr (inr (inr (inr (inr (inr (inr (omega arith, omega arith))))))))
-          (λ e h. inr (inr (inr (inr (inr (inr (inr (omega arith, omega arith))))))))
-          (λ e h. inr (inr (inr (inr (inr (inr (inr (omega arith, omega arith))))))))
-          (λ e h. inr (inr (inr (inr (inr (inr (inr (omega arith, omega arith))))))))
-          (λ h. absurd (false≢true h))
-          (sym (ap isMapped (above a (omega arith))) ∙ m)
-
-      from-fea0 : 0xFEA0 ≤ a → Mapped a
-      from-fea0 p = ⊎-elim (λ q. inr (inl (p, omega arith))) registers (side a 0xFF00)
-
-      from-fe00 : 0xFE00 ≤ a → Mapped a
-      from-fe00 p = ⊎-elim (λ q. nowhere (between a (omega arith) q)) from-fea0 (side a 0xFEA0)
-
-      from-c : 0xC000 ≤ a → Mapped a
-      from-c p = ⊎-elim (λ q. inl (p, omega arith)) from-fe00 (side a 0xFE00)
-
-  ram : 0xC000 ≤ a → a ≤ 0xFDFF → isMapped (placeOf a) ≡ true
-  ram p q = ⊎-elim (λ h. rw (at-c a p (omega arith))) from-d (side a 0xD000)
-    where
-      from-e : 0xE000 ≤ a → isMapped (placeOf a) ≡ true
+      from-e : 0xE000 ≤ a → readable (placeOf a) ≡ true
       from-e l = ⊎-elim (λ h. rw (at-e a l (omega arith))) (λ h. rw (at-f a h q)) (side a 0xF000)
 
-      from-d : 0xD000 ≤ a → isMapped (placeOf a) ≡ true
+      from-d : 0xD000 ≤ a → readable (placeOf a) ≡ true
       from-d l = ⊎-elim (λ h. rw (at-d a l (omega arith))) from-e (side a 0xE000)
 
 abbrev InMap : ℕ → Type 0
-InMap a = isMapped (placeOf a) ≡ true
+InMap a = readable (placeOf a) ≡ true
+
+abbrev Locked : ℕ → Type 0
+Locked a = locksAt a ≡ true
 
 -- FF51 to FF55, and FF72 to FF75
-pointers : (i : ℕ) → i ≤ 4 → InMap (0xFF51 + i)
-unfolding placeOf
-pointers zero h = refl
-pointers (suc zero) h = refl
-pointers (suc (suc zero)) h = refl
-pointers (suc (suc (suc zero))) h = refl
-pointers (suc (suc (suc (suc zero)))) h = refl
+pointers : (i : ℕ) → i ≤ 4 → InMap (0xFF51 + i) × Locked (0xFF51 + i)
+unfolding placeOf locksAt
+pointers zero h = (refl, refl)
+pointers (suc zero) h = (refl, refl)
+pointers (suc (suc zero)) h = (refl, refl)
+pointers (suc (suc (suc zero))) h = (refl, refl)
+pointers (suc (suc (suc (suc zero)))) h = (refl, refl)
 pointers (suc (suc (suc (suc (suc i))))) h = absurd (omega arith)
 
-scratch : (i : ℕ) → i ≤ 3 → InMap (0xFF72 + i)
+scratches : (i : ℕ) → i ≤ 3 → InMap (0xFF72 + i)
 unfolding placeOf
-scratch zero h = refl
-scratch (suc zero) h = refl
-scratch (suc (suc zero)) h = refl
-scratch (suc (suc (suc zero))) h = refl
-scratch (suc (suc (suc (suc i)))) h = absurd (omega arith)
+scratches zero h = refl
+scratches (suc zero) h = refl
+scratches (suc (suc zero)) h = refl
+scratches (suc (suc (suc zero))) h = refl
+scratches (suc (suc (suc (suc i)))) h = absurd (omega arith)
 
 back : (a : ℕ) → Mapped a → InMap a
 unfolding placeOf
-back a (inl h) = ram a (h .0) (h .1)
+back a (inl h) = in-ram a (h .0) (h .1)
 back a (inr (inl h)) = rw (at-oam a (h .0) (h .1))
 back a (inr (inr (inl e))) = subst InMap (sym e) refl
 back a (inr (inr (inr (inl e)))) = subst InMap (sym e) refl
 back a (inr (inr (inr (inr (inl e))))) = subst InMap (sym e) refl
-back a (inr (inr (inr (inr (inr (inl h)))))) = range InMap 0xFF51 4 a pointers (h .0) (h .1)
+back a (inr (inr (inr (inr (inr (inl h)))))) = range InMap 0xFF51 4 a (λ i k. pointers i k .0) (h .0) (h .1)
 back a (inr (inr (inr (inr (inr (inr (inl e))))))) = subst InMap (sym e) refl
-back a (inr (inr (inr (inr (inr (inr (inr h))))))) = range InMap 0xFF72 3 a scratch (h .0) (h .1)
+back a (inr (inr (inr (inr (inr (inr (inr h))))))) = range InMap 0xFF72 3 a scratches (h .0) (h .1)
 
-pub mapped : (a : ℕ) → (isMapped (placeOf a) ≡ true) ↔ Mapped a
-mapped a = (there a, back a)
+pub read-map : (a : ℕ) → (readable (placeOf a) ≡ true) ↔ Mapped a
+read-map a = (there a, back a)
 
-off : (a : ℕ) → (Mapped a → ⊥) → isMapped (placeOf a) ≡ false
-off a out = when-false (isMapped (placeOf a)) (mapped a) .1 out
+one-map : (p : Place) → writable p ≡ readable p
+one-map (workRam i) = refl
+one-map (bankedRam i) = refl
+one-map (extraOam i) = refl
+one-map (register r) = refl
+one-map unmapped = refl
 
--- a place that is not mapped is the one that is so called
-no-place : (p : Place) → isMapped p ≡ false → p ≡ unmapped
-no-place (workRam i) e = absurd (false≢true (sym e))
-no-place (bankedRam i) e = absurd (false≢true (sym e))
-no-place (extraOam i) e = absurd (false≢true (sym e))
-no-place (register r) e = absurd (false≢true (sym e))
-no-place unmapped e = refl
+pub write-map : (a : ℕ) → (writable (placeOf a) ≡ true) ↔ Mapped a
+write-map a = rw (one-map (placeOf a)) (read-map a)
 
-module _ (s : Cgb) (wram : List ℕ) (w : WriteInput) (a : ℕ) where
-  at-fixed : (i : ℕ) → placeOf a ≡ workRam i → Names s wram w a i
-  unfolding mapReadOf wramAfter mapWriteOf storedOf locksAt
-  at-fixed i e = record { read = rw e; written = rw e; state = rw (e, and-false) }
+off : {M : Type 0} (b : Bool) → (b ≡ true → M) → (M → ⊥) → b ≡ false
+off true told out = absurd (out (told refl))
+off false told out = refl
 
-  at-banked : (i : ℕ) → placeOf a ≡ bankedRam i → Names s wram w a (bankedIndex (s .svbk) i)
-  unfolding mapReadOf wramAfter mapWriteOf storedOf locksAt
-  at-banked i e = record { read = rw e; written = rw e; state = rw (e, and-false) }
+pub not-read : (a : ℕ) → (Mapped a → ⊥) → readable (placeOf a) ≡ false
+not-read a out = off (readable (placeOf a)) (there a) out
 
-  -- what another address of the same place names
-  at-same : (b index : ℕ) → placeOf a ≡ placeOf b → Names s wram w b index → Names s wram w a index
-  unfolding mapReadOf wramAfter mapWriteOf storedOf locksAt
-  at-same b index e n = record { read = rw e (n .read); written = rw e (n .written); state = rw e (n .state) }
+pub not-written : (a : ℕ) → (Mapped a → ⊥) → writable (placeOf a) ≡ false
+not-written a out = off (writable (placeOf a)) (write-map a .0) out
 
-  at-extra : (i : ℕ) → placeOf a ≡ extraOam i → (mapReadOf s wram a ≡ Byte (getD (s .«extra_oam») i 0)) × (mapWriteOf s w a ≡ record { mapped = true; state = withExtraOam (set (s .«extra_oam») i (w .value)) s })
-  unfolding mapReadOf mapWriteOf storedOf locksAt
-  at-extra i e = (rw e, rw (e, and-false))
+module _ (a : ℕ) where
+  abbrev Names : Place → Type 0
+  Names q = locks q ≡ true → LocksWrite a
 
-  at-none : placeOf a ≡ unmapped → (mapReadOf s wram a ≡ Unmapped) × (mapWriteOf s w a ≡ record { mapped = false; state = s })
-  unfolding mapReadOf mapWriteOf storedOf locksAt
-  at-none e = (rw e, rw (e, and-false))
+  by-lock : Names (registerOf a)
+  by-lock =
+      each Names a registers unmapped
+      ((λ e h. absurd (false≢true h)) ▸
+      (λ e h. inl e) ▸
+      (λ e h. absurd (false≢true h)) ▸
+      (λ e h. inr (inl (omega arith, omega arith))) ▸
+      (λ e h. inr (inl (omega arith, omega arith))) ▸
+      (λ e h. inr (inl (omega arith, omega arith))) ▸
+      (λ e h. inr (inl (omega arith, omega arith))) ▸
+      (λ e h. inr (inl (omega arith, omega arith))) ▸
+      (λ e h. inr (inr (inl e))) ▸
+      (λ e h. absurd (false≢true h)) ▸
+      (λ e h. absurd (false≢true h)) ▸
+      (λ e h. inr (inr (inr e))) ▸
+      (λ e h. absurd (false≢true h)) ▸
+      tt)
+      (λ h. absurd (false≢true h))
 
-  -- above FDFF no place is work RAM
-  keeps : 0xFDFF < a → wramAt s wram (w .value) (placeOf a) ≡ wram
-  keeps p = ⊎-elim (λ q. rw (between a p q)) from-fea0 (side a 0xFEA0)
-    where
-      registers : 0xFF00 ≤ a → wramAt s wram (w .value) (placeOf a) ≡ wram
-      registers q =
-          rw (above a (omega arith))
-          (at-registers (λ r. wramAt s wram (w .value) r ≡ wram) a (λ e. refl) (λ e. refl) (λ e. refl) (λ e. refl) (λ e. refl) (λ e. refl) (λ e. refl) (λ e. refl) (λ e. refl) (λ e. refl) (λ e. refl) (λ e. refl) (λ e. refl) refl)
+  locks-there : locksAt a ≡ true → LocksWrite a
+  unfolding locksAt
+  locks-there =
+      at-place Names a
+      (λ p q h. absurd (false≢true h))
+      (λ p q h. absurd (false≢true h))
+      (λ p q h. absurd (false≢true h))
+      (λ p q h. absurd (false≢true h))
+      (λ p q h. absurd (false≢true h))
+      by-lock
 
-      from-fea0 : 0xFEA0 ≤ a → wramAt s wram (w .value) (placeOf a) ≡ wram
-      from-fea0 q = ⊎-elim (λ h. rw (at-oam a q (omega arith))) registers (side a 0xFF00)
+locks-back : (a : ℕ) → LocksWrite a → locksAt a ≡ true
+unfolding locksAt placeOf
+locks-back a (inl e) = subst Locked (sym e) refl
+locks-back a (inr (inl h)) = range Locked 0xFF51 4 a (λ i k. pointers i k .1) (h .0) (h .1)
+locks-back a (inr (inr (inl e))) = subst Locked (sym e) refl
+locks-back a (inr (inr (inr e))) = subst Locked (sym e) refl
 
-  elsewhere : (a < 0xC000) ⊎ (0xFDFF < a) → wramAfter s wram (w .value) a ≡ wram
-  unfolding wramAfter
-  elsewhere (inl p) = rw (below a p)
-  elsewhere (inr p) = keeps p
+-- compat locks the addresses that document 01 names and no other
+pub lock-map : (a : ℕ) → (locksAt a ≡ true) ↔ LocksWrite a
+lock-map a = (locks-there a, locks-back a)
 
-  bank : (i : ℕ) → (s .svbk ≡ 0 → ⊥) → bankedIndex (s .svbk) i ≡ s .svbk * 4096 + i
-  bank i some = rw (ne-eqb (s .svbk) 0 some)
-
-  bank-zero : (i : ℕ) → s .svbk ≡ 0 → bankedIndex (s .svbk) i ≡ 4096 + i
-  bank-zero i none = rw (eq-eqb (s .svbk) 0 none)
+pub not-lock : (a : ℕ) → (LocksWrite a → ⊥) → locksAt a ≡ false
+not-lock a out = off (locksAt a) (locks-there a) out
 
 lower : (a k : ℕ) → a - (k + 0x2000) ≡ a - 0x2000 - k
 lower a k = omega arith
@@ -167,69 +185,25 @@ echoed a p q = ⊎-elim fixed banked (side a 0xF000)
     banked : 0xF000 ≤ a → placeOf a ≡ placeOf (a - 0x2000)
     banked h = at-f a h q ∙ ap bankedRam (lower a 0xD000) ∙ sym (at-d (a - 0x2000) (omega arith) (omega arith))
 
-bank-inside : (svbk a : ℕ) → 0xD000 ≤ a → a ≤ 0xDFFF → svbk ≤ 7 → svbk * 4096 + (a - 0xD000) < 32768
-bank-inside svbk a p q h = omega arith
-
-inside : (a : ℕ) → 0xFEA0 ≤ a → a ≤ 0xFEFF → (a / 32 % 8 - 5) * 8 + a % 8 < 24
-inside a p q = omega arith
-
-pub map-steps : (s : Cgb) (wram : List ℕ) (w : WriteInput) (a : ℕ) → MapSteps s wram w a
-map-steps s wram w a =
+pub map-steps : (a : ℕ) → MapSteps a
+map-steps a =
     record {
-      mapped = mapped a;
-      read-unmapped = λ no. at-none s wram w a (no-place (placeOf a) (off a no)) .0;
-      write-unmapped = λ no. at-none s wram w a (no-place (placeOf a) (off a no)) .1;
-      fixed = λ p q. at-fixed s wram w a (a - 0xC000) (at-c a p q);
-      banked = λ p q some. rw (← bank s wram w a (a - 0xD000) some) (at-banked s wram w a (a - 0xD000) (at-d a p q));
-      bank-inside = bank-inside (s .svbk) a;
-      bank-one = λ p q none. rw (← bank-zero s wram w a (a - 0xD000) none) (at-banked s wram w a (a - 0xD000) (at-d a p q));
-      echo = λ p q index. at-same s wram w a (a - 0x2000) index (echoed a p q);
-      elsewhere = elsewhere s wram w a;
-      extra-inside = inside a;
-      extra-read = λ p q. at-extra s wram w a (extraOamIndex a) (at-oam a p q) .0;
-      extra-write = λ p q. at-extra s wram w a (extraOamIndex a) (at-oam a p q) .1;
+      read-map = read-map a;
+      write-map = write-map a;
+      one-map = one-map (placeOf a);
+      locks = lock-map a;
+      echo = echoed a;
+      extra-inside = λ p q. omega arith;
     }
 
-low-bit : (n : ℕ) → n ≤ 1 → n % 2 ≡ n
-low-bit n h = omega arith
-
-low-bits : (n : ℕ) → n ≤ 7 → n % 8 ≡ n
-low-bits n h = omega arith
-
-reads : (s : Cgb) (wram : List ℕ) → s .«dmg_compat» ≡ false → RegisterReads s wram
-unfolding mapReadOf placeOf
-reads s wram free =
+pub ram-steps : (svbk a : ℕ) → RamSteps svbk a
+unfolding wramIndexOf
+ram-steps svbk a =
     record {
-      ff4c = rw free;
-      ff4d = rw free;
-      ff4f = λ h. rw (low-bit (s .vram .selected) h);
-      ff51 = refl;
-      ff52 = refl;
-      ff53 = refl;
-      ff54 = refl;
-      ff55 = refl;
-      ff70 = λ h. rw (free, low-bits (s .svbk) h);
-      ff72 = refl;
-      ff73 = refl;
-      ff74 = rw free;
-      ff75 = refl;
+      fixed = λ p q. rw (at-c a p q);
+      banked = λ p q some. rw (at-d a p q, ne-eqb svbk 0 some);
+      bank-one = λ p q none. rw (at-d a p q, eq-eqb svbk 0 none);
+      bank-inside = λ p q h. omega arith;
+      echo = λ p q. rw (echoed a p q);
+      elsewhere = ⊎-elim (ram.below svbk a) (ram.above svbk a);
     }
-
-writes : (s : Cgb) (w : WriteInput) → s .«dmg_compat» ≡ false → RegisterWrites s w
-unfolding mapWriteOf storedOf placeOf locksAt
-writes s w free =
-    record {
-      ff4c = rw free;
-      ff4d-arms = λ e. rw (free, e);
-      ff4d-disarms = λ e. rw (free, e);
-      ff4f = rw free;
-      ff55 = rw free;
-      ff70 = rw free;
-      ff72 = rw free;
-      ff73 = rw free;
-      ff74 = rw free;
-      ff75 = rw free;
-    }
-
-pub register-steps : RegisterSteps
-register-steps = record { reads = reads; writes = writes }

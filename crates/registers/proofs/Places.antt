@@ -1,39 +1,50 @@
 -- Where an address lies, as laws of the map: what a match on the address cites. Assumes nothing.
 use Prim.Native.Nat.{ℕ, _≤_, _<_, _-_}
-use mathlib.Core.Path.{_≡_}
-use mathlib.Core.List.{List, [], _∷_}
-use borrow.Author.Tests.{ne-eqb}
+use mathlib.Core.Path.{_≡_, refl}
+use mathlib.Core.Bool.{Bool, true, false, cond, _&&_}
+use lib.Dec.{leb}
+use borrow.Author.Tests.{leb-true}
 use native.Mathlib.Omega.{arith}
-use Rattle.registers.specs.Map.{placeOf, registerOf, workRam, bankedRam, extraOam, unmapped, extraOamIndex}
-use Rattle.registers.proofs.Ranges.{inside, under, past}
+use Rattle.table.specs.Table.{NoneOf, keysOf, Each, _▸_}
+use Rattle.table.proofs.Table.{each, each-under, outside}
+use Rattle.registers.specs.Map.{Register, KEY0, KEY1, VBK, HDMA1, HDMA2, HDMA3, HDMA4, HDMA5, SVBK, FF72, FF73, FF74, FF75, Place, workRam, bankedRam, extraOam, register, unmapped, extraOamIndex, within, registers, registerOf, placeOf, readable, writable, locks, locksAt}
+use Rattle.registers.proofs.Ranges.{inside, past}
 
--- none of the numbers, as a match's last arm knows it: the last number first
-abbrev pub NoneOf : ℕ → List ℕ → Type 0
-NoneOf a [] = Unit {0}
-NoneOf a (k ∷ ks) = NoneOf a ks × (a ≡ k → ⊥)
+-- a choice by a range
+in-range : (P : Place → Type 0) (low high a : ℕ) (x y : Place) → (low ≤ a → a ≤ high → P x) → P y → P (cond (within low high a) x y)
+in-range P low high a x y here else = by (leb low a) (leb a high) refl refl
+  where
+    by : (b c : Bool) → leb low a ≡ b → leb a high ≡ c → P (cond (b && c) x y)
+    by true true p q = here (leb-true low a p) (leb-true a high q)
+    by true false p q = else
+    by false c p q = else
 
--- the addresses that name one register each, the last first
-abbrev pub registers : List ℕ
-registers =
-    0xFF75 ∷ 0xFF74 ∷ 0xFF73 ∷ 0xFF72 ∷ 0xFF70 ∷ 0xFF55 ∷ 0xFF54 ∷ 0xFF53 ∷ 0xFF52 ∷ 0xFF51 ∷ 0xFF4F ∷ 0xFF4D ∷ 0xFF4C ∷ []
+-- what holds of each range's place and of what a register's address names holds of the place that an address names
+pub at-place :
+    (P : Place → Type 0) (a : ℕ) →
+    (0xC000 ≤ a → a ≤ 0xCFFF → P (workRam (a - 0xC000))) →
+    (0xD000 ≤ a → a ≤ 0xDFFF → P (bankedRam (a - 0xD000))) →
+    (0xE000 ≤ a → a ≤ 0xEFFF → P (workRam (a - 0xE000))) →
+    (0xF000 ≤ a → a ≤ 0xFDFF → P (bankedRam (a - 0xF000))) →
+    (0xFEA0 ≤ a → a ≤ 0xFEFF → P (extraOam (extraOamIndex a))) →
+    P (registerOf a) → P (placeOf a)
+unfolding placeOf
+at-place P a c d e f oam named =
+    in-range P 0xC000 0xCFFF a _ _ c
+    (in-range P 0xD000 0xDFFF a _ _ d
+    (in-range P 0xE000 0xEFFF a _ _ e
+    (in-range P 0xF000 0xFDFF a _ _ f
+    (in-range P 0xFEA0 0xFEFF a _ _ oam named))))
 
-no-register : (a : ℕ) → NoneOf a registers → registerOf a ≡ unmapped
-no-register a n =
-    simp (
-      ne-eqb _ _ (n .1),
-      ne-eqb _ _ (n .0 .1),
-      ne-eqb _ _ (n .0 .0 .1),
-      ne-eqb _ _ (n .0 .0 .0 .1),
-      ne-eqb _ _ (n .0 .0 .0 .0 .1),
-      ne-eqb _ _ (n .0 .0 .0 .0 .0 .1),
-      ne-eqb _ _ (n .0 .0 .0 .0 .0 .0 .1),
-      ne-eqb _ _ (n .0 .0 .0 .0 .0 .0 .0 .1),
-      ne-eqb _ _ (n .0 .0 .0 .0 .0 .0 .0 .0 .1),
-      ne-eqb _ _ (n .0 .0 .0 .0 .0 .0 .0 .0 .0 .1),
-      ne-eqb _ _ (n .0 .0 .0 .0 .0 .0 .0 .0 .0 .0 .1),
-      ne-eqb _ _ (n .0 .0 .0 .0 .0 .0 .0 .0 .0 .0 .0 .1),
-      ne-eqb _ _ (n .0 .0 .0 .0 .0 .0 .0 .0 .0 .0 .0 .0 .1),
-    )
+-- what holds of every register and of no place holds of what an address names beside memory
+pub at-register : (P : Place → Type 0) (a : ℕ) → ((r : Register) → P (register r)) → P unmapped → P (registerOf a)
+at-register P a all none = each P a registers unmapped named none
+  where
+    named : Each P a registers
+    named =
+        (λ e. all KEY0) ▸ (λ e. all KEY1) ▸ (λ e. all VBK) ▸ (λ e. all HDMA1) ▸ (λ e. all HDMA2) ▸ (λ e. all HDMA3) ▸
+        (λ e. all HDMA4) ▸ (λ e. all HDMA5) ▸ (λ e. all SVBK) ▸ (λ e. all FF72) ▸ (λ e. all FF73) ▸ (λ e. all FF74) ▸
+        (λ e. all FF75) ▸ tt
 
 module _ (a : ℕ) where
   pub at-c : 0xC000 ≤ a → a ≤ 0xCFFF → placeOf a ≡ workRam (a - 0xC000)
@@ -69,52 +80,6 @@ module _ (a : ℕ) where
         inside 0xFEA0 0xFEFF a p q,
       )
 
-  -- below every register none of them is named
-  before-registers : a < 0xFF00 → NoneOf a registers
-  before-registers p = (
-    (
-      (
-        (
-          (
-            (
-              (((((((tt, omega arith), omega arith), omega arith), omega arith), omega arith), omega arith), omega arith),
-              omega arith,
-            ),
-            omega arith,
-          ),
-          omega arith,
-        ),
-        omega arith,
-      ),
-      omega arith,
-    ),
-    omega arith,
-  )
-
-  pub below : a < 0xC000 → placeOf a ≡ unmapped
-  unfolding placeOf
-  below p =
-      simp (
-        under 0xC000 0xCFFF a p,
-        under 0xD000 0xDFFF a (omega arith),
-        under 0xE000 0xEFFF a (omega arith),
-        under 0xF000 0xFDFF a (omega arith),
-        under 0xFEA0 0xFEFF a (omega arith),
-        no-register a (before-registers (omega arith)),
-      )
-
-  pub between : 0xFDFF < a → a < 0xFEA0 → placeOf a ≡ unmapped
-  unfolding placeOf
-  between p q =
-      simp (
-        past 0xC000 0xCFFF a (omega arith),
-        past 0xD000 0xDFFF a (omega arith),
-        past 0xE000 0xEFFF a (omega arith),
-        past 0xF000 0xFDFF a p,
-        under 0xFEA0 0xFEFF a q,
-        no-register a (before-registers (omega arith)),
-      )
-
   -- from FF00 up only the registers are mapped
   pub above : 0xFEFF < a → placeOf a ≡ registerOf a
   unfolding placeOf
@@ -127,5 +92,19 @@ module _ (a : ℕ) where
         past 0xFEA0 0xFEFF a p,
       )
 
-  pub elsewhere : 0xFEFF < a → NoneOf a registers → placeOf a ≡ unmapped
-  elsewhere p n = rw (above p, no-register a n)
+  -- below FF00 no register is named
+  pub no-register : a < 0xFF00 → registerOf a ≡ unmapped
+  no-register p = each (λ q. q ≡ unmapped) a registers unmapped (each-under (λ q. q ≡ unmapped) 0xFF00 a registers refl p) refl
+
+  -- an address of no register that passes a test names a place that fails it
+  pub not-readable : 0xFEFF < a → NoneOf a (keysOf readable registers) → readable (placeOf a) ≡ false
+  not-readable p n = rw (above p) (outside readable a unmapped refl registers n)
+
+  pub not-writable : 0xFEFF < a → NoneOf a (keysOf writable registers) → writable (placeOf a) ≡ false
+  not-writable p n = rw (above p) (outside writable a unmapped refl registers n)
+
+  pub not-locked : NoneOf a (keysOf locks registers) → locksAt a ≡ false
+  unfolding locksAt
+  not-locked n =
+      at-place (λ q. locks q ≡ false) a (λ p q. refl) (λ p q. refl) (λ p q. refl) (λ p q. refl) (λ p q. refl)
+      (outside locks a unmapped refl registers n)

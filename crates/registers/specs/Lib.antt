@@ -1,6 +1,3 @@
 pub mod Map
-pub mod Read
-pub mod Write
-pub mod Steps
+pub mod Ram
 pub mod MapSteps
-pub mod CompatSteps

@@ -1,7 +1,9 @@
 -- The address map (document 01, section 1: "The register map is a choice by address"): which place an address names.
 use Prim.Native.Nat.{ℕ, _+_, _-_, _*_, _/_, _%_}
 use mathlib.Core.Bool.{Bool, true, false, cond, _&&_}
-use lib.Dec.{leb, eqb}
+use mathlib.Core.List.{List, [], _∷_}
+use lib.Dec.{leb}
+use Rattle.table.specs.Table.{Entry, _⟼_, look}
 
 -- the registers that an address of their own names
 pub data Register : Type 0 where
@@ -13,13 +15,6 @@ pub data Place : Type 0 where
   register : Register → Place
   unmapped : Place
 
--- section 3: "D000h up in bank FF70 (0 means 1)"
-abbrev pub wramBank : ℕ → ℕ
-wramBank svbk = cond (eqb svbk 0) 1 svbk
-
-abbrev pub bankedIndex : ℕ → ℕ → ℕ
-bankedIndex svbk i = wramBank svbk * 4096 + i
-
 -- "FEA0–FEFF is 24 bytes, index ((address / 32) mod 8 − 5) × 8 + address mod 8"
 abbrev pub extraOamIndex : ℕ → ℕ
 extraOamIndex a = (a / 32 % 8 - 5) * 8 + a % 8
@@ -27,21 +22,26 @@ extraOamIndex a = (a / 32 % 8 - 5) * 8 + a % 8
 abbrev pub within : ℕ → ℕ → ℕ → Bool
 within low high a = leb low a && leb a high
 
+-- the registers by their addresses
+abbrev pub registers : List (Entry Place)
+registers =
+    (0xFF4C ⟼ register KEY0)
+    ∷ (0xFF4D ⟼ register KEY1)
+    ∷ (0xFF4F ⟼ register VBK)
+    ∷ (0xFF51 ⟼ register HDMA1)
+    ∷ (0xFF52 ⟼ register HDMA2)
+    ∷ (0xFF53 ⟼ register HDMA3)
+    ∷ (0xFF54 ⟼ register HDMA4)
+    ∷ (0xFF55 ⟼ register HDMA5)
+    ∷ (0xFF70 ⟼ register SVBK)
+    ∷ (0xFF72 ⟼ register FF72)
+    ∷ (0xFF73 ⟼ register FF73)
+    ∷ (0xFF74 ⟼ register FF74)
+    ∷ (0xFF75 ⟼ register FF75)
+    ∷ []
+
 abbrev pub registerOf : ℕ → Place
-registerOf a =
-    cond (eqb a 0xFF4C) (register KEY0)
-    (cond (eqb a 0xFF4D) (register KEY1)
-    (cond (eqb a 0xFF4F) (register VBK)
-    (cond (eqb a 0xFF51) (register HDMA1)
-    (cond (eqb a 0xFF52) (register HDMA2)
-    (cond (eqb a 0xFF53) (register HDMA3)
-    (cond (eqb a 0xFF54) (register HDMA4)
-    (cond (eqb a 0xFF55) (register HDMA5)
-    (cond (eqb a 0xFF70) (register SVBK)
-    (cond (eqb a 0xFF72) (register FF72)
-    (cond (eqb a 0xFF73) (register FF73)
-    (cond (eqb a 0xFF74) (register FF74)
-    (cond (eqb a 0xFF75) (register FF75) unmapped))))))))))))
+registerOf a = look registers unmapped a
 
 -- "WRAM answers at C000h–FDFFh, E000h up repeating C000h up"
 unfoldable pub placeOf : ℕ → Place
@@ -53,13 +53,21 @@ placeOf a =
     (cond (within 0xFEA0 0xFEFF a) (extraOam (extraOamIndex a))
     (registerOf a)))))
 
--- what refusal 4 asks: "address not in the call's map"; FF68 to FF6C are in no call's map
-abbrev pub isMapped : Place → Bool
-isMapped (workRam i) = true
-isMapped (bankedRam i) = true
-isMapped (extraOam i) = true
-isMapped (register r) = true
-isMapped unmapped = false
+-- what refusal 4 asks: "address not in the call's map". A read and a write have each a map of their own; FF68 to FF6C are in
+-- neither
+abbrev pub readable : Place → Bool
+readable (workRam i) = true
+readable (bankedRam i) = true
+readable (extraOam i) = true
+readable (register r) = true
+readable unmapped = false
+
+abbrev pub writable : Place → Bool
+writable (workRam i) = true
+writable (bankedRam i) = true
+writable (extraOam i) = true
+writable (register r) = true
+writable unmapped = false
 
 -- "Under compat, writes to FF4D, FF51–FF55, FF70 and FF74 are accepted and do nothing"
 abbrev pub locksRegister : Register → Bool

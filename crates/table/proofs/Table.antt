@@ -1,12 +1,13 @@
 -- A number outside a table gets the default; and what holds of each entry and of the default holds of what is looked up.
 -- Assumes nothing.
-use Prim.Native.Nat.{ℕ}
+use Prim.Native.Nat.{ℕ, _<_, _≤_}
+use native.Mathlib.Omega.{arith}
 use mathlib.Core.Path.{_≡_, refl}
-use mathlib.Core.Bool.{Bool, true, false, cond}
+use mathlib.Core.Bool.{Bool, true, false, cond, _&&_, false≢true}
 use mathlib.Core.List.{List, [], _∷_}
-use lib.Dec.{eqb}
-use borrow.Author.Tests.{eqb-true, ne-eqb}
-use Rattle.table.specs.Table.{Entry, look, keysOf, keys, NoneAfter, NoneOf, Each}
+use lib.Dec.{eqb, leb}
+use borrow.Author.Tests.{eqb-true, ne-eqb, leb-true}
+use Rattle.table.specs.Table.{Entry, look, keysOf, keys, NoneAfter, NoneOf, Each, from}
 
 -- what held before the numbers of a list were passed by
 earlier : (before : Type 0) (a : ℕ) (ks : List ℕ) → NoneAfter before a ks → before
@@ -55,3 +56,14 @@ module _ {A : Type 0} (default : A) (a : ℕ) where
   -- a number that is no key has the default
   pub miss : (t : List (Entry A)) → NoneOf a (keys t) → look t default a ≡ default
   miss t n = miss-after t (Unit {0}) n
+
+both : (a b : Bool) → (a && b) ≡ true → (a ≡ true) × (b ≡ true)
+both true b e = (refl, e)
+both false b e = absurd (false≢true e)
+
+-- a number below every key is none of them
+pub each-under : {A : Type 0} (P : A → Type 0) (low a : ℕ) (t : List (Entry A)) → from low t ≡ true → a < low → Each P a t
+each-under P low a [] h p = tt
+each-under P low a (e ∷ es) h p =
+    let k : low ≤ e .key = leb-true low (e .key) (both (leb low (e .key)) (from low es) h .0) in
+    (λ here. absurd (omega (arith, here)), each-under P low a es (both (leb low (e .key)) (from low es) h .1) p)

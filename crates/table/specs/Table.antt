@@ -1,9 +1,9 @@
 -- A table by number: what stands at a key, and a default for every other number. Of two entries with one key the first counts.
 use Prim.Native.Nat.{ℕ}
 use mathlib.Core.Path.{_≡_}
-use mathlib.Core.Bool.{Bool, true, cond}
+use mathlib.Core.Bool.{Bool, true, cond, _&&_}
 use mathlib.Core.List.{List, [], _∷_}
-use lib.Dec.{eqb}
+use lib.Dec.{eqb, leb}
 
 pub record Entry (A : Type 0) : Type 0 where
   pub key : ℕ
@@ -39,3 +39,13 @@ NoneOf a ks = NoneAfter (Unit {0}) a ks
 abbrev pub Each : {A : Type 0} → (A → Type 0) → ℕ → List (Entry A) → Type 0
 Each P a [] = Unit {0}
 Each P a (e ∷ es) = (a ≡ e .key → P (e .value)) × Each P a es
+
+-- `x ▸ y ▸ .. ▸ tt` writes it, entry by entry
+infixr 20 _▸_
+abbrev pub _▸_ : {A : Type 0} {B : Type 0} → A → B → A × B
+x ▸ y = (x, y)
+
+-- whether no key is below a number
+abbrev pub from : {A : Type 0} → ℕ → List (Entry A) → Bool
+from low [] = true
+from low (e ∷ es) = leb low (e .key) && from low es

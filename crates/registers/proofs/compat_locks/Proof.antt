@@ -1,6 +1,6 @@
 -- `compat_locks` meets its contract: each arm names a locked register, and the last arm none of them. Assumes nothing.
 use Rattle.registers.specs.Map.{placeOf, locksAt}
-use Rattle.registers.proofs.Locks.{not-locked}
+use Rattle.registers.proofs.Places.{not-locked}
 use Rattle.registers.proofs.compat_locks.Statement.{statement}
 use Rattle.registers.proofs.compat_locks.Tie as tie
 

@@ -1,0 +1,61 @@
+-- A write keeps what refusal 7 tests: a state that passes is followed by one that passes. Assumes nothing.
+use Prim.Native.Nat.{ℕ}
+use native.Mathlib.Omega.{arith}
+use mathlib.Core.Path.{_∙_, sym}
+use mathlib.Core.Bool.{Bool, true, false, cond}
+use Rattle.console.specs.Reached.{Reached}
+use Rattle.console.specs.Set.{withVramDma}
+use Rattle.console.specs.declared.Cgb.{Cgb}
+use Rattle.hdma.specs.Hdma5.{lengthOf, hdma5Written}
+use Rattle.hdma.proofs.Written.{Kept, keeps}
+use Rattle.registers.specs.Map.{Register, KEY0, KEY1, VBK, HDMA1, HDMA2, HDMA3, HDMA4, HDMA5, SVBK, FF72, FF73, FF74, FF75, Place, workRam, bankedRam, extraOam, register, unmapped, placeOf, writable}
+use Rattle.map_write.specs.Write.{registerWritten, stateAt, storedOf, mapWriteOf, locked}
+use Rattle.map_write.specs.declared.WriteInput.{WriteInput}
+
+-- FF55: a length of 16 to 2,048, so left is not 0
+length-written : (s : Cgb) (v : ℕ) (lcd : Bool) → Reached s → Reached (withVramDma (hdma5Written v lcd (s .«vram_dma»)) s)
+length-written s v lcd r =
+    let k : Kept (lengthOf v) (s .«vram_dma») (hdma5Written v lcd (s .«vram_dma»)) = keeps v lcd (s .«vram_dma») in
+    record {
+      quota = rw (k .quota) (r .quota);
+      block = k .block (r .block);
+      left = rw (k .left) (omega arith);
+      svbk = r .svbk;
+      bank = r .bank;
+      idle = λ none. absurd (omega (arith, sym (k .left) ∙ none));
+    }
+
+register-keeps : (s : Cgb) (w : WriteInput) (g : Register) → Reached s → Reached (registerWritten s w g)
+register-keeps s w KEY0 r = r
+register-keeps s w KEY1 r = r
+register-keeps s w VBK r =
+    record { quota = r .quota; block = r .block; left = r .left; svbk = r .svbk; bank = omega arith; idle = r .idle }
+register-keeps s w HDMA1 r = r
+register-keeps s w HDMA2 r = r
+register-keeps s w HDMA3 r = r
+register-keeps s w HDMA4 r = r
+register-keeps s w HDMA5 r = length-written s (w .value) (w .«lcd_on») r
+register-keeps s w SVBK r =
+    record { quota = r .quota; block = r .block; left = r .left; svbk = omega arith; bank = r .bank; idle = r .idle }
+register-keeps s w FF72 r = r
+register-keeps s w FF73 r = r
+register-keeps s w FF74 r = r
+register-keeps s w FF75 r = r
+
+place-keeps : (s : Cgb) (w : WriteInput) (p : Place) → Reached s → Reached (stateAt s w p)
+place-keeps s w (workRam i) r = r
+place-keeps s w (bankedRam i) r = r
+place-keeps s w (extraOam i) r = r
+place-keeps s w (register g) r = register-keeps s w g r
+place-keeps s w unmapped r = r
+
+either :
+    (b : Bool) (s : Cgb) (w : WriteInput) (a : ℕ) → Reached s →
+    Reached (cond b (record { mapped = writable (placeOf a); state = s }) (storedOf s w a) .state)
+unfolding storedOf
+either true s w a r = r
+either false s w a r = place-keeps s w (placeOf a) r
+
+pub write-keeps : (s : Cgb) (w : WriteInput) (a : ℕ) → Reached s → Reached (mapWriteOf s w a .state)
+unfolding mapWriteOf
+write-keeps s w a r = either (locked s a) s w a r

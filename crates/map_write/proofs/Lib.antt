@@ -1,0 +1,4 @@
+pub mod Ram
+pub mod Mapped
+pub mod Keeps
+pub mod WriteSteps

@@ -1,0 +1,48 @@
+-- Where an address lies in work RAM, and what a place that lies there is not. Assumes nothing.
+use Prim.Native.Nat.{ℕ, _<_}
+use native.Mathlib.Omega.{arith}
+use mathlib.Core.Path.{_≡_, refl, sym}
+use mathlib.Core.Bool.{false}
+use Rattle.memory.specs.Wram.{bankedIndex}
+use Rattle.registers.specs.Map.{Place, workRam, bankedRam, extraOam, register, unmapped, registerOf, placeOf}
+use Rattle.registers.specs.Ram.{inRam, indexAt, wramIndexOf}
+use Rattle.registers.specs.declared.WramIndex.the-variants.{At, Elsewhere}
+use Rattle.registers.proofs.Places.{at-place, at-register}
+
+module _ (svbk : ℕ) where
+  abbrev Apart : Place → Type 0
+  Apart p = indexAt svbk p ≡ Elsewhere
+
+  -- no register is in work RAM
+  named : (a : ℕ) → Apart (registerOf a)
+  named a = at-register Apart a (λ r. refl) refl
+
+  pub below : (a : ℕ) → a < 0xC000 → wramIndexOf svbk a ≡ Elsewhere
+  unfolding wramIndexOf
+  below a h =
+      at-place Apart a (λ p q. absurd (omega arith)) (λ p q. absurd (omega arith)) (λ p q. absurd (omega arith))
+      (λ p q. absurd (omega arith)) (λ p q. refl) (named a)
+
+  pub above : (a : ℕ) → 0xFDFF < a → wramIndexOf svbk a ≡ Elsewhere
+  unfolding wramIndexOf
+  above a h =
+      at-place Apart a (λ p q. absurd (omega arith)) (λ p q. absurd (omega arith)) (λ p q. absurd (omega arith))
+      (λ p q. absurd (omega arith)) (λ p q. refl) (named a)
+
+-- an index tells what it is of
+pub at-index : (j i : ℕ) → At j ≡ At i → j ≡ i
+at-index j i e = cc
+
+pub not-here : (i : ℕ) → Elsewhere ≡ At i → ⊥
+not-here i e = let z : _≡_ {A = ℕ} 0 1 = cc in absurd (omega arith)
+
+beyond : (svbk : ℕ) (p : Place) → indexAt svbk p ≡ Elsewhere → inRam p ≡ false
+beyond svbk (workRam i) e = absurd (not-here i (sym e))
+beyond svbk (bankedRam i) e = absurd (not-here (bankedIndex svbk i) (sym e))
+beyond svbk (extraOam i) e = refl
+beyond svbk (register r) e = refl
+beyond svbk unmapped e = refl
+
+pub not-in-ram : (svbk a : ℕ) → wramIndexOf svbk a ≡ Elsewhere → inRam (placeOf a) ≡ false
+unfolding wramIndexOf
+not-in-ram svbk a e = beyond svbk (placeOf a) e
