@@ -1,0 +1,2 @@
+pub mod Blackout
+pub mod BlackoutSteps
