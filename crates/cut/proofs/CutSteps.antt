@@ -7,7 +7,8 @@ use mathlib.Core.Logic.{_↔_}
 use lib.Dec.{ltb}
 use borrow.Author.Tests.{ltb-true, ltb-false, lt-ltb, le-ltb}
 use Rattle.countdown.specs.Countdown.{armed, cleared, activeOf}
-use Rattle.console.specs.Set.{withCursorMode, withCursorEscapeByte, withBlockRemaining, withBlockReadyIn, withBlockSetupCells, withArbGrantedAhead, withArbGrantCounted}
+use Rattle.console.specs.Set.{withCursorMode, withCursorEscapeByte, withBlockRemaining, withBlockReadyIn, withBlockSetupCells, withArbGrantedAhead}
+use Rattle.console.specs.Set.{withArbGrantCounted}
 use Rattle.console.specs.declared.vram_dma.TransferMode.the-variants as mode
 use Rattle.console.specs.declared.vram_dma.VramDma.{VramDma}
 use Rattle.cut.specs.Cut.{readyBlock, outcomeOf, ungranted, cutOf, discardedOf, gradedOf, upwardOf, engineAfter}
@@ -96,7 +97,9 @@ discards-only :
 unfolding upwardOf discardedOf ungranted
 discards-only d some ready = rw (graded-discard d (lt-ltb 0 (d .block .remaining) some) ready)
 
-no-block : (d : VramDma) → d .block .remaining ≡ 0 → (outcomeOf true d ≡ None) × (upwardOf d .cursor ≡ d .cursor) × (upwardOf d .block ≡ d .block)
+no-block :
+    (d : VramDma) → d .block .remaining ≡ 0 →
+    (outcomeOf true d ≡ None) × (upwardOf d .cursor ≡ d .cursor) × (upwardOf d .block ≡ d .block)
 unfolding outcomeOf upwardOf gradedOf
 no-block d none =
     let t : ltb 0 (d .block .remaining) ≡ false = le-ltb 0 (d .block .remaining) (omega arith) in (rw t, rw t, rw t)

@@ -3,7 +3,8 @@ use Prim.Native.Nat.{ℕ, _-_}
 use mathlib.Core.Bool.{Bool, true, false, cond, not, _&&_}
 use lib.Dec.{ltb}
 use Rattle.countdown.specs.Countdown.{armed, cleared, activeOf}
-use Rattle.console.specs.Set.{withCursorMode, withCursorEscapeByte, withBlockRemaining, withBlockReadyIn, withBlockSetupCells, withArbPend, withArbGrantedAhead, withArbGrantCounted, withArbWakePendBlind, withDmaCursor, withDmaBlock, withDmaArb}
+use Rattle.console.specs.Set.{withCursorMode, withCursorEscapeByte, withBlockRemaining, withBlockReadyIn, withBlockSetupCells, withArbPend}
+use Rattle.console.specs.Set.{withArbGrantedAhead, withArbGrantCounted, withArbWakePendBlind, withDmaCursor, withDmaBlock, withDmaArb}
 use Rattle.console.specs.declared.vram_dma.TransferMode.the-variants as mode
 use Rattle.console.specs.declared.vram_dma.VramDma.{VramDma}
 use Rattle.cut.specs.declared.SwitchOutcome.{SwitchOutcome}

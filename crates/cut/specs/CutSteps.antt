@@ -4,7 +4,8 @@ use mathlib.Core.Path.{_≡_}
 use mathlib.Core.Bool.{true, false}
 use mathlib.Core.Logic.{_↔_}
 use Rattle.countdown.specs.Countdown.{armed, cleared}
-use Rattle.console.specs.Set.{withCursorMode, withCursorEscapeByte, withBlockRemaining, withBlockReadyIn, withBlockSetupCells, withArbPend, withArbGrantedAhead, withArbGrantCounted, withArbWakePendBlind}
+use Rattle.console.specs.Set.{withCursorMode, withCursorEscapeByte, withBlockRemaining, withBlockReadyIn, withBlockSetupCells, withArbPend}
+use Rattle.console.specs.Set.{withArbGrantedAhead, withArbGrantCounted, withArbWakePendBlind}
 use Rattle.console.specs.declared.vram_dma.HaltArbiter.{HaltArbiter}
 use Rattle.console.specs.declared.vram_dma.TransferMode.the-variants as mode
 use Rattle.console.specs.declared.vram_dma.VramDma.{VramDma}
@@ -53,7 +54,9 @@ pub record CutSteps : Type 0 where
   pub every : (d : VramDma) → (upwardOf d .arb .pend ≡ false) × (upwardOf d .arb .«wake_pend_blind» ≡ armed 6)
   pub keeps-oam : (d : VramDma) → upwardOf d .oam ≡ d .oam
   -- "without a latched block, and downward, it is none"; downward the engine stays as it is
-  pub no-block : (d : VramDma) → d .block .remaining ≡ 0 → (outcomeOf true d ≡ None) × (upwardOf d .cursor ≡ d .cursor) × (upwardOf d .block ≡ d .block)
+  pub no-block :
+      (d : VramDma) → d .block .remaining ≡ 0 →
+      (outcomeOf true d ≡ None) × (upwardOf d .cursor ≡ d .cursor) × (upwardOf d .block ≡ d .block)
   -- granted too: without a latched block only what every upward switch does is done
   pub no-block-arb : (d : VramDma) → d .block .remaining ≡ 0 → upwardOf d .arb ≡ everyArb (d .arb)
   pub downward : (d : VramDma) → (outcomeOf false d ≡ None) × (engineAfter false d ≡ d)

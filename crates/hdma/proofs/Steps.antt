@@ -9,7 +9,7 @@ use Rattle.console.specs.Modes.{isHBlank}
 use Rattle.console.specs.Set.{withCursorMode, withCursorRemaining, withArbArmedThisFall, withArbPendFromArm, withDmaArb}
 use Rattle.console.specs.declared.vram_dma.VramDma.{VramDma}
 use Rattle.transfer.specs.Latch.{latchedOf, latchedBlock}
-use Rattle.hdma.specs.Hdma5.{lengthOf, grantsCleared, armedOf, cancelledOf, startedOf, hdma5Written}
+use Rattle.hdma.specs.Hdma5.{lengthOf, grantsCleared, armedOf, cancelledOf, generalStarted, hdma5Written}
 use Rattle.hdma.specs.Steps.{PointerSteps, LengthSteps, WriteSteps}
 use Rattle.hdma.proofs.Written.{chosen, arms, disarms, starts, block-survives, lcd-on-keeps-block, lcd-off-latches}
 
@@ -33,7 +33,7 @@ record Touched (n : ℕ) (d e : VramDma) : Type 0 where
   pub oam : e .oam ≡ d .oam
 
 touched : (arms lcd armed : Bool) (n : ℕ) (d : VramDma) → Touched n d (chosen arms lcd armed n (withDmaArb (grantsCleared (d .arb)) d))
-unfolding chosen armedOf cancelledOf startedOf latchedOf
+unfolding chosen armedOf cancelledOf generalStarted latchedOf
 touched true true armed n d = record { left = refl; marks = refl; oam = refl }
 touched true false armed n d = record { left = refl; marks = refl; oam = refl }
 touched false lcd true n d = record { left = refl; marks = refl; oam = refl }
@@ -46,8 +46,8 @@ strobed true n d = refl
 strobed false n d = refl
 
 -- with bit 7 clear the arbiter is left alone
-quiet : (armed : Bool) (n : ℕ) (d : VramDma) → cond armed (cancelledOf n d) (startedOf n d) .arb ≡ d .arb
-unfolding cancelledOf startedOf
+quiet : (armed : Bool) (n : ℕ) (d : VramDma) → cond armed (cancelledOf n d) (generalStarted n d) .arb ≡ d .arb
+unfolding cancelledOf generalStarted
 quiet true n d = refl
 quiet false n d = refl
 

@@ -8,11 +8,11 @@ use Rattle.console.specs.Set.{withDmaArb}
 use Rattle.console.specs.declared.vram_dma.TransferMode.the-variants.{Idle, General, HBlank}
 use Rattle.console.specs.declared.vram_dma.VramDma.{VramDma}
 use Rattle.transfer.specs.Latch.{latchedOf, latchedBlock}
-use Rattle.hdma.specs.Hdma5.{lengthOf, grantsCleared, armedOf, cancelledOf, startedOf, hdma5Written}
+use Rattle.hdma.specs.Hdma5.{lengthOf, grantsCleared, armedOf, cancelledOf, generalStarted, hdma5Written}
 
 -- the write with its three tests as flags: bit 7, the LCD, armed
 unfoldable pub chosen : Bool → Bool → Bool → ℕ → VramDma → VramDma
-chosen arms lcd armed n d = cond arms (armedOf n lcd d) (cond armed (cancelledOf n d) (startedOf n d))
+chosen arms lcd armed n d = cond arms (armedOf n lcd d) (cond armed (cancelledOf n d) (generalStarted n d))
 
 -- what every write to FF55 leaves: the new length; pointers, quota and an owed escape as they were; a block of at most 16
 pub record Kept (n : ℕ) (d e : VramDma) : Type 0 where
@@ -24,7 +24,7 @@ pub record Kept (n : ℕ) (d e : VramDma) : Type 0 where
   pub block : d .block .remaining ≤ 16 → e .block .remaining ≤ 16
 
 kept : (arms lcd armed : Bool) (n : ℕ) (d : VramDma) → Kept n d (chosen arms lcd armed n (withDmaArb (grantsCleared (d .arb)) d))
-unfolding chosen armedOf cancelledOf startedOf latchedOf latchedBlock
+unfolding chosen armedOf cancelledOf generalStarted latchedOf latchedBlock
 kept true true armed n d = record { left = refl; source = refl; dest = refl; quota = refl; escape = refl; block = λ h. h }
 kept true false armed n d = record { left = refl; source = refl; dest = refl; quota = refl; escape = refl; block = λ h. lit≤ tt }
 kept false lcd true n d = record { left = refl; source = refl; dest = refl; quota = refl; escape = refl; block = λ h. h }
@@ -35,8 +35,8 @@ unfolding armedOf latchedOf
 armed-mode true n d = refl
 armed-mode false n d = refl
 
-block-kept : (armed : Bool) (n : ℕ) (d : VramDma) → cond armed (cancelledOf n d) (startedOf n d) .block ≡ d .block
-unfolding cancelledOf startedOf
+block-kept : (armed : Bool) (n : ℕ) (d : VramDma) → cond armed (cancelledOf n d) (generalStarted n d) .block ≡ d .block
+unfolding cancelledOf generalStarted
 block-kept true n d = refl
 block-kept false n d = refl
 
@@ -56,7 +56,7 @@ module _ (v : ℕ) (lcd : Bool) (d : VramDma) where
   disarms bit7 armed = rw (bit7, armed)
 
   pub starts : leb 128 v ≡ false → isHBlank (d .cursor .mode) ≡ false → hdma5Written v lcd d .cursor .mode ≡ General
-  unfolding hdma5Written startedOf
+  unfolding hdma5Written generalStarted
   starts bit7 armed = rw (bit7, armed)
 
   pub block-survives : leb 128 v ≡ false → hdma5Written v lcd d .block ≡ d .block

@@ -4,7 +4,8 @@ use mathlib.Core.Path.{_≡_}
 use mathlib.Core.Bool.{Bool, true, false, cond, _&&_}
 use lib.Dec.{ltb, leb}
 use Rattle.console.specs.Modes.{isHBlank}
-use Rattle.console.specs.Set.{withCursorMode, withCursorRemaining, withArbGrantedAhead, withArbGrantCounted, withArbPendGranted, withArbArmedThisFall, withDmaCursor, withDmaArb}
+use Rattle.console.specs.Set.{withCursorMode, withCursorRemaining, withArbGrantedAhead, withArbGrantCounted, withArbPendGranted, withArbArmedThisFall}
+use Rattle.console.specs.Set.{withDmaCursor, withDmaArb}
 use Rattle.console.specs.declared.vram_dma.HaltArbiter.{HaltArbiter}
 use Rattle.console.specs.declared.vram_dma.TransferCursor.{TransferCursor}
 use Rattle.console.specs.declared.vram_dma.TransferMode.{TransferMode}
@@ -37,15 +38,15 @@ unfoldable pub cancelledOf : ℕ → VramDma → VramDma
 cancelledOf length d = withDmaCursor (paced Idle length (d .cursor)) d
 
 -- "otherwise it starts a General transfer"; "A latched block survives"
-unfoldable pub startedOf : ℕ → VramDma → VramDma
-startedOf length d = withDmaCursor (paced General length (d .cursor)) d
+unfoldable pub generalStarted : ℕ → VramDma → VramDma
+generalStarted length d = withDmaCursor (paced General length (d .cursor)) d
 
 -- "FF55 with value v"; armed is mode HBlank
 unfoldable pub hdma5Written : ℕ → Bool → VramDma → VramDma
 hdma5Written v lcd d =
     let cleared = withDmaArb (grantsCleared (d .arb)) d in
     cond (leb 128 v) (armedOf (lengthOf v) lcd cleared)
-    (cond (isHBlank (d .cursor .mode)) (cancelledOf (lengthOf v) cleared) (startedOf (lengthOf v) cleared))
+    (cond (isHBlank (d .cursor .mode)) (cancelledOf (lengthOf v) cleared) (generalStarted (lengthOf v) cleared))
 
 -- "visible = left / 16 − granted (not below 0)"
 abbrev pub visible : VramDma → ℕ

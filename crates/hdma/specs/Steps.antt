@@ -4,7 +4,8 @@ use mathlib.Core.Path.{_≡_}
 use mathlib.Core.Bool.{Bool, true, false}
 use Rattle.countdown.specs.Countdown.{armed, cleared}
 use Rattle.console.specs.Modes.{isHBlank}
-use Rattle.console.specs.Set.{withCursorMode, withCursorRemaining, withBlockRemaining, withBlockSetupCells, withBlockReadyIn, withArbArmedThisFall, withArbPendFromArm, withArbGrantedAhead, withArbGrantCounted, withArbPendGranted}
+use Rattle.console.specs.Set.{withCursorMode, withCursorRemaining, withBlockRemaining, withBlockSetupCells, withBlockReadyIn, withArbArmedThisFall}
+use Rattle.console.specs.Set.{withArbPendFromArm, withArbGrantedAhead, withArbGrantCounted, withArbPendGranted}
 use Rattle.console.specs.declared.vram_dma.TransferMode.the-variants.{Idle, General, HBlank}
 use Rattle.console.specs.declared.vram_dma.VramDma.{VramDma}
 use Rattle.hdma.specs.Pointers.{withHigh, withLow}

@@ -1,6 +1,6 @@
 // FF55: the status that it reads, and the three things that a write to it can do.
 ghost use mathlib.Core.Path.{_≡_};
-ghost use Rattle.hdma.specs.Hdma5.{statusByte, grantsCleared, paced, armedOf, cancelledOf, startedOf, hdma5Written};
+ghost use Rattle.hdma.specs.Hdma5.{statusByte, grantsCleared, paced, armedOf, cancelledOf, generalStarted, hdma5Written};
 use console::vram_dma::HaltArbiter;
 use console::vram_dma::TransferCursor;
 use console::vram_dma::TransferMode;
@@ -69,7 +69,7 @@ fn cancel(mut d: VramDma, length: u16) -> VramDma
 
 // Bit 7 clear otherwise: the whole length at once.
 fn start_general(mut d: VramDma, length: u16) -> VramDma
-    ensures { λ r. ⌜ r ≡ startedOf length d ⌝ }
+    ensures { λ r. ⌜ r ≡ generalStarted length d ⌝ }
 {
     let c = d.cursor;
     let cursor = pace(c, TransferMode::General, length);

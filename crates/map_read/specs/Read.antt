@@ -6,7 +6,8 @@ use lib.ListN.{getD}
 use Rattle.console.specs.declared.Cgb.{Cgb}
 use Rattle.hdma.specs.Hdma5.{statusByte}
 use Rattle.memory.specs.Wram.{bankedIndex}
-use Rattle.registers.specs.Map.{Register, KEY0, KEY1, VBK, HDMA1, HDMA2, HDMA3, HDMA4, HDMA5, SVBK, FF72, FF73, FF74, FF75, Place, workRam, bankedRam, extraOam, register, unmapped, placeOf, readable}
+use Rattle.registers.specs.Map.{Register, KEY0, KEY1, VBK, HDMA1, HDMA2, HDMA3, HDMA4, HDMA5, SVBK, FF72, FF73, FF74, FF75, Place, workRam, bankedRam}
+use Rattle.registers.specs.Map.{extraOam, register, unmapped, placeOf, readable}
 use Rattle.registers.specs.Ram.{inRam}
 use Rattle.map_read.specs.declared.MapRead.{MapRead}
 use Rattle.map_read.specs.declared.MapRead.the-variants.{Byte, Unmapped}

@@ -8,7 +8,8 @@ use Rattle.console.specs.Set.{withVramDma}
 use Rattle.console.specs.declared.Cgb.{Cgb}
 use Rattle.hdma.specs.Hdma5.{lengthOf, hdma5Written}
 use Rattle.hdma.proofs.Written.{Kept, keeps}
-use Rattle.registers.specs.Map.{Register, KEY0, KEY1, VBK, HDMA1, HDMA2, HDMA3, HDMA4, HDMA5, SVBK, FF72, FF73, FF74, FF75, Place, workRam, bankedRam, extraOam, register, unmapped, placeOf, writable}
+use Rattle.registers.specs.Map.{Register, KEY0, KEY1, VBK, HDMA1, HDMA2, HDMA3, HDMA4, HDMA5, SVBK, FF72, FF73, FF74, FF75, Place, workRam, bankedRam}
+use Rattle.registers.specs.Map.{extraOam, register, unmapped, placeOf, writable}
 use Rattle.map_write.specs.Write.{registerWritten, stateAt, storedOf, mapWriteOf, locked}
 use Rattle.map_write.specs.declared.WriteInput.{WriteInput}
 

@@ -6,7 +6,8 @@ use mathlib.Core.List.{List}
 use lib.ListN.{set}
 use Rattle.console.specs.Set.{withDmgCompat, withExtraOam}
 use Rattle.console.specs.declared.Cgb.{Cgb}
-use Rattle.registers.specs.Map.{Register, KEY0, KEY1, VBK, HDMA1, HDMA2, HDMA3, HDMA4, HDMA5, SVBK, FF72, FF73, FF74, FF75, Place, workRam, bankedRam, extraOam, register, unmapped, placeOf, writable, locks, locksAt}
+use Rattle.registers.specs.Map.{Register, KEY0, KEY1, VBK, HDMA1, HDMA2, HDMA3, HDMA4, HDMA5, SVBK, FF72, FF73, FF74, FF75, Place, workRam, bankedRam}
+use Rattle.registers.specs.Map.{extraOam, register, unmapped, placeOf, writable, locks, locksAt}
 use Rattle.registers.specs.MapSteps.{Mapped, LocksWrite}
 use Rattle.registers.proofs.Places.{at-oam}
 use Rattle.registers.proofs.MapSteps.{lock-map, not-lock, not-written}

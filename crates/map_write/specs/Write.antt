@@ -5,12 +5,14 @@ use mathlib.Core.Bool.{Bool, false, cond, _&&_}
 use mathlib.Core.List.{List}
 use lib.Dec.{eqb}
 use lib.ListN.{set}
-use Rattle.console.specs.Set.{withCursorSource, withCursorDest, withDmaCursor, withVramDma, withSvbk, withKey1Armed, withVram, withVramSelected, withFf72, withFf73, withFf74, withFf75, withExtraOam}
+use Rattle.console.specs.Set.{withCursorSource, withCursorDest, withDmaCursor, withVramDma, withSvbk, withKey1Armed, withVram, withVramSelected}
+use Rattle.console.specs.Set.{withFf72, withFf73, withFf74, withFf75, withExtraOam}
 use Rattle.console.specs.declared.Cgb.{Cgb}
 use Rattle.memory.specs.Wram.{bankedIndex}
 use Rattle.hdma.specs.Pointers.{withHigh, withLow}
 use Rattle.hdma.specs.Hdma5.{hdma5Written}
-use Rattle.registers.specs.Map.{Register, KEY0, KEY1, VBK, HDMA1, HDMA2, HDMA3, HDMA4, HDMA5, SVBK, FF72, FF73, FF74, FF75, Place, workRam, bankedRam, extraOam, register, unmapped, placeOf, writable, locksAt}
+use Rattle.registers.specs.Map.{Register, KEY0, KEY1, VBK, HDMA1, HDMA2, HDMA3, HDMA4, HDMA5, SVBK, FF72, FF73, FF74, FF75, Place, workRam, bankedRam}
+use Rattle.registers.specs.Map.{extraOam, register, unmapped, placeOf, writable, locksAt}
 use Rattle.registers.specs.Ram.{inRam}
 use Rattle.map_write.specs.declared.MapWritten.{MapWritten}
 use Rattle.map_write.specs.declared.WriteInput.{WriteInput}

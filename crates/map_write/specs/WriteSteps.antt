@@ -4,7 +4,8 @@ use mathlib.Core.Path.{_≡_}
 use mathlib.Core.Bool.{true, false}
 use mathlib.Core.List.{List}
 use lib.ListN.{set}
-use Rattle.console.specs.Set.{withDmgCompat, withVramDma, withSvbk, withKey1Armed, withVram, withVramSelected, withFf72, withFf73, withFf74, withFf75, withExtraOam}
+use Rattle.console.specs.Set.{withDmgCompat, withVramDma, withSvbk, withKey1Armed, withVram, withVramSelected, withFf72, withFf73, withFf74, withFf75}
+use Rattle.console.specs.Set.{withExtraOam}
 use Rattle.console.specs.declared.Cgb.{Cgb}
 use Rattle.hdma.specs.Pointers.{withHigh, withLow}
 use Rattle.hdma.specs.Hdma5.{hdma5Written}

@@ -8,7 +8,8 @@ use borrow.Author.Tests.{eq-eqb, ne-eqb}
 use Rattle.memory.specs.Wram.{bankedIndex}
 use Rattle.table.specs.Table.{_▸_}
 use Rattle.table.proofs.Table.{each}
-use Rattle.registers.specs.Map.{Place, workRam, bankedRam, extraOam, register, unmapped, registers, registerOf, placeOf, readable, writable, locks, locksAt}
+use Rattle.registers.specs.Map.{Place, workRam, bankedRam, extraOam, register, unmapped, registers, registerOf, placeOf, readable, writable}
+use Rattle.registers.specs.Map.{locks, locksAt}
 use Rattle.registers.specs.Ram.{wramIndexOf}
 use Rattle.registers.specs.MapSteps.{Mapped, LocksWrite, MapSteps, RamSteps}
 use Rattle.registers.specs.declared.WramIndex.the-variants.{At, Elsewhere}

@@ -7,7 +7,9 @@ use borrow.Author.Tests.{leb-true}
 use native.Mathlib.Omega.{arith}
 use Rattle.table.specs.Table.{NoneOf, keysOf, Each, _▸_}
 use Rattle.table.proofs.Table.{each, each-under, outside}
-use Rattle.registers.specs.Map.{Register, KEY0, KEY1, VBK, HDMA1, HDMA2, HDMA3, HDMA4, HDMA5, SVBK, FF72, FF73, FF74, FF75, Place, workRam, bankedRam, extraOam, register, unmapped, extraOamIndex, within, registers, registerOf, placeOf, readable, writable, locks, locksAt}
+use Rattle.registers.specs.Map.{Register, KEY0, KEY1, VBK, HDMA1, HDMA2, HDMA3, HDMA4, HDMA5, SVBK, FF72, FF73, FF74, FF75, Place, workRam}
+use Rattle.registers.specs.Map.{bankedRam, extraOam, register, unmapped, extraOamIndex, within, registers, registerOf, placeOf, readable}
+use Rattle.registers.specs.Map.{writable, locks, locksAt}
 use Rattle.registers.proofs.Ranges.{inside, past}
 
 -- a choice by a range

@@ -2,7 +2,8 @@
 use Prim.Native.Nat.{ℕ}
 use mathlib.Core.Path.{_≡_}
 use mathlib.Core.Bool.{true, false, not}
-use Rattle.console.specs.Set.{withVramDma, withDoubleSpeed, withKey1Armed, withSpeedSwitchBlackout, withSwitchRelockDebit, withConsoleState, withConsoleBlackoutAnchor}
+use Rattle.console.specs.Set.{withVramDma, withDoubleSpeed, withKey1Armed, withSpeedSwitchBlackout, withSwitchRelockDebit, withConsoleState}
+use Rattle.console.specs.Set.{withConsoleBlackoutAnchor}
 use Rattle.console.specs.declared.Cgb.{Cgb}
 use Rattle.blackout.specs.Blackout.{dividerActive}
 use Rattle.cut.specs.Cut.{outcomeOf, upwardOf}
@@ -42,7 +43,9 @@ pub record Switches (i : SwitchInput) (s : Cgb) : Type 0 where
       (s .«double_speed» ≡ false → stateAfter i s .«speed_switch_blackout» ≡ 5) ×
       (s .«double_speed» ≡ true → stateAfter i s .«speed_switch_blackout» ≡ 2)
   -- the debit: set upward at phase 3 without one, spent by the next upward switch, kept downward
-  pub debit-set : s .«double_speed» ≡ false → s .«switch_relock_debit» ≡ false → i .«dot_phase» ≡ 3 → stateAfter i s .«switch_relock_debit» ≡ true
+  pub debit-set :
+      s .«double_speed» ≡ false → s .«switch_relock_debit» ≡ false → i .«dot_phase» ≡ 3 →
+      stateAfter i s .«switch_relock_debit» ≡ true
   pub debit-not-set : s .«double_speed» ≡ false → (i .«dot_phase» ≡ 3 → ⊥) → stateAfter i s .«switch_relock_debit» ≡ false
   pub debit-spent : s .«double_speed» ≡ false → s .«switch_relock_debit» ≡ true → stateAfter i s .«switch_relock_debit» ≡ false
   pub debit-kept : s .«double_speed» ≡ true → stateAfter i s .«switch_relock_debit» ≡ s .«switch_relock_debit»

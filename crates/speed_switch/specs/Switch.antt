@@ -2,7 +2,8 @@
 use Prim.Native.Nat.{ℕ, _+_, _-_}
 use mathlib.Core.Bool.{Bool, false, cond, not, _&&_, _||_}
 use lib.Dec.{eqb}
-use Rattle.console.specs.Set.{withVramDma, withDoubleSpeed, withKey1Armed, withSpeedSwitchBlackout, withSwitchRelockDebit, withConsoleState, withConsoleBlackoutAnchor}
+use Rattle.console.specs.Set.{withVramDma, withDoubleSpeed, withKey1Armed, withSpeedSwitchBlackout, withSwitchRelockDebit, withConsoleState}
+use Rattle.console.specs.Set.{withConsoleBlackoutAnchor}
 use Rattle.console.specs.declared.Cgb.{Cgb}
 use Rattle.blackout.specs.Blackout.{relockEdges}
 use Rattle.cut.specs.Cut.{outcomeOf, engineAfter}

@@ -5,11 +5,27 @@ use Rattle.cut.proofs.grade.Tie as tie
 
 returns : tie.Need-returns
 unfolding gradedOf
-returns c = rw (c .before .before .before .before .if1 .taken, ← c .before .before .before .ready-block .ensures, c .before .before .if2 .taken, c .cut .ensures, c .before .ungrant .ensures)
+returns c =
+    let asked = c .before .before .before in
+    rw (
+      asked .before .if1 .taken,
+      ← asked .ready-block .ensures,
+      c .before .before .if2 .taken,
+      c .cut .ensures,
+      c .before .ungrant .ensures,
+    )
 
 returns-2 : tie.Need-returns-2
 unfolding gradedOf
-returns-2 c = rw (c .before .before .before .before .if1 .taken, ← c .before .before .before .ready-block .ensures, c .before .before .if2 .left, c .discard .ensures, c .before .ungrant2 .ensures)
+returns-2 c =
+    let asked = c .before .before .before in
+    rw (
+      asked .before .if1 .taken,
+      ← asked .ready-block .ensures,
+      c .before .before .if2 .left,
+      c .discard .ensures,
+      c .before .ungrant2 .ensures,
+    )
 
 returns-3 : tie.Need-returns-3
 unfolding gradedOf

@@ -4,7 +4,10 @@ use Rattle.map_read.proofs.key1_byte.Statement.{statement}
 use Rattle.map_read.proofs.key1_byte.Tie as tie
 
 returns : tie.Need-returns
-returns c = simp (c .pick83 .ensures, c .before .pick82 .ensures, c .before .before .pick8 .ensures) (key1 (c .before .before .before .args .double-speed) (c .before .before .before .args .armed))
+returns c =
+    let start = c .before .before .before .args in
+    simp (c .pick83 .ensures, c .before .pick82 .ensures, c .before .before .pick8 .ensures)
+    (key1 (start .double-speed) (start .armed))
 
 pub key1-byte-spec : {M : Type 1} → statement M
 key1-byte-spec = tie.close (tie.spec (λ _ _. tt) (λ _ _. tt) (λ _ _. tt) returns)

@@ -15,7 +15,9 @@ add-pick8 c = search needs
 
 returns : tie.Need-returns
 unfolding statusByte
-returns c = simp (c .pick8 .ensures, c .before .is-hblank .ensures, c .before .before .saturating-sub16 .ensures, c .before .before .before .wide .ensures .same)
+returns c =
+    let left = c .before .before in
+    simp (c .pick8 .ensures, c .before .is-hblank .ensures, left .saturating-sub16 .ensures, left .before .wide .ensures .same)
 
 pub status-byte-spec : {M : Type 1} → statement M
 status-byte-spec = tie.close (tie.spec (λ _ _. tt) (λ _ _. tt) (λ _ _. tt) add-low cast-low add-pick8 (λ _ _. tt) returns)

@@ -13,15 +13,42 @@ mul-length c = search needs
 
 returns : tie.Need-returns
 unfolding hdma5Written
-returns c = rw (c .arm .ensures, le-leb _ _ (c .before .if1 .taken), c .before .before .clear-grant-marks .ensures, c .before .before .before .before .before .before .wide .ensures .same)
+returns c =
+    let marks = c .before .before in
+    let length = marks .before .before .before .before in
+    rw (c .arm .ensures, le-leb _ _ (c .before .if1 .taken), marks .clear-grant-marks .ensures, length .wide .ensures .same)
 
 returns-2 : tie.Need-returns-2
 unfolding hdma5Written
-returns-2 c = rw (c .cancel .ensures, lt-leb _ _ (c .before .before .if1 .left), ← c .before .before .before .before .before .is-hblank .ensures, c .before .if2 .taken, c .before .before .before .clear-grant-marks .ensures, c .before .before .before .before .before .before .before .wide .ensures .same)
+returns-2 c =
+    let marks = c .before .before .before in
+    let armed = marks .before .before in
+    let length = armed .before .before in
+    rw (
+      c .cancel .ensures,
+      lt-leb _ _ (c .before .before .if1 .left),
+      ← armed .is-hblank .ensures,
+      c .before .if2 .taken,
+      marks .clear-grant-marks .ensures,
+      length .wide .ensures .same,
+    )
 
 returns-3 : tie.Need-returns-3
 unfolding hdma5Written
-returns-3 c = rw (c .start-general .ensures, lt-leb _ _ (c .before .before .if1 .left), ← c .before .before .before .before .before .is-hblank .ensures, c .before .if2 .left, c .before .before .before .clear-grant-marks .ensures, c .before .before .before .before .before .before .before .wide .ensures .same)
+returns-3 c =
+    let marks = c .before .before .before in
+    let armed = marks .before .before in
+    let length = armed .before .before in
+    rw (
+      c .start-general .ensures,
+      lt-leb _ _ (c .before .before .if1 .left),
+      ← armed .is-hblank .ensures,
+      c .before .if2 .left,
+      marks .clear-grant-marks .ensures,
+      length .wide .ensures .same,
+    )
 
 pub write-hdma5-spec : {M : Type 1} → statement M
-write-hdma5-spec = tie.close (tie.spec (λ _ _. tt) add-length mul-length (λ _ _. tt) (λ _ _. tt) (λ _ _. tt) returns (λ _ _. tt) returns-2 (λ _ _. tt) returns-3)
+write-hdma5-spec =
+    tie.close
+    (tie.spec (λ _ _. tt) add-length mul-length (λ _ _. tt) (λ _ _. tt) (λ _ _. tt) returns (λ _ _. tt) returns-2 (λ _ _. tt) returns-3)

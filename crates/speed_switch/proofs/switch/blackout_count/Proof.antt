@@ -6,7 +6,17 @@ use Rattle.speed_switch.proofs.switch.blackout_count.Tie as tie
 
 returns : tie.Need-returns
 unfolding blackoutOf
-returns c = simp (c .pick324 .ensures, c .before .relock-edges .ensures, c .before .before .pick323 .ensures, c .before .before .before .pick322 .ensures, c .before .before .before .before .pick32 .ensures, counts.upward, counts.downward)
+returns c =
+    let held = c .before .before in
+    simp (
+      c .pick324 .ensures,
+      c .before .relock-edges .ensures,
+      held .pick323 .ensures,
+      held .before .pick322 .ensures,
+      held .before .before .pick32 .ensures,
+      counts.upward,
+      counts.downward,
+    )
 
 pub blackout-count-spec : {M : Type 1} → statement M
 blackout-count-spec = tie.close (tie.spec (λ _ _. tt) (λ _ _. tt) (λ _ _. tt) (λ _ _. tt) (λ _ _. tt) returns)
