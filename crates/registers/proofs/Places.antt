@@ -5,11 +5,10 @@ use mathlib.Core.Bool.{Bool, true, false, cond, _&&_}
 use lib.Dec.{leb}
 use borrow.Author.Tests.{leb-true}
 use native.Mathlib.Omega.{arith}
-use Rattle.table.specs.Table.{NoneOf, keysOf, Each, _▸_}
+use Rattle.table.specs.Table.{NoneOf, keysOf}
 use Rattle.table.proofs.Table.{each, each-under, outside}
-use Rattle.registers.specs.Map.{Register, KEY0, KEY1, VBK, HDMA1, HDMA2, HDMA3, HDMA4, HDMA5, SVBK, FF72, FF73, FF74, FF75, Place, workRam}
-use Rattle.registers.specs.Map.{bankedRam, extraOam, register, unmapped, extraOamIndex, within, registers, registerOf, placeOf, readable}
-use Rattle.registers.specs.Map.{writable, locks, locksAt}
+use Rattle.registers.specs.Map.{Place, workRam, bankedRam, extraOam, unmapped, extraOamIndex, within, registers, registerOf, placeOf}
+use Rattle.registers.specs.Map.{readable, writable, locks, locksAt}
 use Rattle.registers.proofs.Ranges.{inside, past}
 
 -- a choice by a range
@@ -37,16 +36,6 @@ at-place P a c d e f oam named =
     (in-range P 0xE000 0xEFFF a _ _ e
     (in-range P 0xF000 0xFDFF a _ _ f
     (in-range P 0xFEA0 0xFEFF a _ _ oam named))))
-
--- what holds of every register and of no place holds of what an address names beside memory
-pub at-register : (P : Place → Type 0) (a : ℕ) → ((r : Register) → P (register r)) → P unmapped → P (registerOf a)
-at-register P a all none = each P a registers unmapped named none
-  where
-    named : Each P a registers
-    named =
-        (λ e. all KEY0) ▸ (λ e. all KEY1) ▸ (λ e. all VBK) ▸ (λ e. all HDMA1) ▸ (λ e. all HDMA2) ▸ (λ e. all HDMA3) ▸
-        (λ e. all HDMA4) ▸ (λ e. all HDMA5) ▸ (λ e. all SVBK) ▸ (λ e. all FF72) ▸ (λ e. all FF73) ▸ (λ e. all FF74) ▸
-        (λ e. all FF75) ▸ tt
 
 module _ (a : ℕ) where
   pub at-c : 0xC000 ≤ a → a ≤ 0xCFFF → placeOf a ≡ workRam (a - 0xC000)

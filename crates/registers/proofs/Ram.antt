@@ -2,32 +2,40 @@
 use Prim.Native.Nat.{ℕ, _<_}
 use native.Mathlib.Omega.{arith}
 use mathlib.Core.Path.{_≡_, refl, sym}
-use mathlib.Core.Bool.{false}
+use mathlib.Core.Bool.{true, false, not, false≢true}
 use Rattle.memory.specs.Wram.{bankedIndex}
-use Rattle.registers.specs.Map.{Place, workRam, bankedRam, extraOam, register, unmapped, registerOf, placeOf}
+use Rattle.registers.specs.Map.{Place, workRam, bankedRam, extraOam, register, unmapped, registers, registerOf, placeOf}
 use Rattle.registers.specs.Ram.{inRam, indexAt, wramIndexOf}
 use Rattle.registers.specs.declared.WramIndex.the-variants.{At, Elsewhere}
-use Rattle.registers.proofs.Places.{at-place, at-register}
+use Rattle.table.proofs.Table.{passes}
+use Rattle.registers.proofs.Places.{at-place}
+
+-- no register is in work RAM
+named : (a : ℕ) → not (inRam (registerOf a)) ≡ true
+named a = passes (λ p. not (inRam p)) a registers unmapped refl refl
 
 module _ (svbk : ℕ) where
   abbrev Apart : Place → Type 0
   Apart p = indexAt svbk p ≡ Elsewhere
 
-  -- no register is in work RAM
-  named : (a : ℕ) → Apart (registerOf a)
-  named a = at-register Apart a (λ r. refl) refl
+  apart : (p : Place) → not (inRam p) ≡ true → Apart p
+  apart (workRam i) e = absurd (false≢true e)
+  apart (bankedRam i) e = absurd (false≢true e)
+  apart (extraOam i) e = refl
+  apart (register r) e = refl
+  apart unmapped e = refl
 
   pub below : (a : ℕ) → a < 0xC000 → wramIndexOf svbk a ≡ Elsewhere
   unfolding wramIndexOf
   below a h =
       at-place Apart a (λ p q. absurd (omega arith)) (λ p q. absurd (omega arith)) (λ p q. absurd (omega arith))
-      (λ p q. absurd (omega arith)) (λ p q. refl) (named a)
+      (λ p q. absurd (omega arith)) (λ p q. refl) (apart (registerOf a) (named a))
 
   pub above : (a : ℕ) → 0xFDFF < a → wramIndexOf svbk a ≡ Elsewhere
   unfolding wramIndexOf
   above a h =
       at-place Apart a (λ p q. absurd (omega arith)) (λ p q. absurd (omega arith)) (λ p q. absurd (omega arith))
-      (λ p q. absurd (omega arith)) (λ p q. refl) (named a)
+      (λ p q. absurd (omega arith)) (λ p q. refl) (apart (registerOf a) (named a))
 
 -- an index tells what it is of
 pub at-index : (j i : ℕ) → At j ≡ At i → j ≡ i

@@ -7,7 +7,7 @@ use mathlib.Core.Bool.{Bool, true, false, cond, _&&_, false≢true}
 use mathlib.Core.List.{List, [], _∷_}
 use lib.Dec.{eqb, leb}
 use borrow.Author.Tests.{eqb-true, ne-eqb, leb-true}
-use Rattle.table.specs.Table.{Entry, look, keysOf, keys, NoneAfter, NoneOf, Each, from}
+use Rattle.table.specs.Table.{Entry, look, keysOf, keys, NoneAfter, NoneOf, Each, from, every}
 
 -- what held before the numbers of a list were passed by
 earlier : (before : Type 0) (a : ℕ) (ks : List ℕ) → NoneAfter before a ks → before
@@ -67,3 +67,12 @@ each-under P low a [] h p = tt
 each-under P low a (e ∷ es) h p =
     let k : low ≤ e .key = leb-true low (e .key) (both (leb low (e .key)) (from low es) h .0) in
     (λ here. absurd (omega (arith, here)), each-under P low a es (both (leb low (e .key)) (from low es) h .1) p)
+
+-- what every entry and the default pass, whatever is looked up passes
+pub passes :
+    {A : Type 0} (test : A → Bool) (a : ℕ) (t : List (Entry A)) (default : A) →
+    every test t ≡ true → test default ≡ true → test (look t default a) ≡ true
+passes test a [] default h d = d
+passes test a (e ∷ es) default h d =
+    let two = both (test (e .value)) (every test es) h in
+    choice (λ x. test x ≡ true) a (e .key) (e .value) (look es default a) (λ here. two .0) (passes test a es default (two .1) d)

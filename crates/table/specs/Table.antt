@@ -49,3 +49,8 @@ x ▸ y = (x, y)
 abbrev pub from : {A : Type 0} → ℕ → List (Entry A) → Bool
 from low [] = true
 from low (e ∷ es) = leb low (e .key) && from low es
+
+-- whether every value passes a test
+abbrev pub every : {A : Type 0} → (A → Bool) → List (Entry A) → Bool
+every test [] = true
+every test (e ∷ es) = test (e .value) && every test es
