@@ -5,12 +5,6 @@ use Rattle.map_read.proofs.Ram.{ram-read, beyond-ram}
 use Rattle.map_read.proofs.map_read_byte.Statement.{statement}
 use Rattle.map_read.proofs.map_read_byte.Tie as tie
 
-enum-known-i : tie.Need-enum-known-i
-enum-known-i c = search needs
-
-enum-told : tie.Need-enum-told
-enum-told c = search needs
-
 returns : tie.Need-returns
 returns c =
     let asked = c .before .before .before .before in
@@ -26,4 +20,6 @@ returns-2 c =
     c .register-read .ensures ∙ beyond-ram (start .s) (start .wram .now) (start .address) none
 
 pub map-read-byte-spec : {M : Type 1} → statement M
-map-read-byte-spec = tie.close (tie.spec (λ _ _. tt) enum-known-i (λ _ _. tt) enum-told (λ _ _. tt) returns returns-2)
+map-read-byte-spec =
+    tie.close
+    (tie.spec (λ _ _. tt) (λ c. search needs) (λ _ _. tt) (λ c. search needs) (λ _ _. tt) returns returns-2)

@@ -43,4 +43,5 @@ returns-6 c =
 
 pub wram-index-spec : {M : Type 1} → statement M
 wram-index-spec =
-    tie.close (tie.spec cast-t6 (λ _ _. tt) cast-t10 (λ _ _. tt) returns returns-2 returns-3 returns-4 returns-5 returns-6)
+    tie.close
+    (tie.spec cast-t6 (λ _ _. tt) cast-t10 (λ _ _. tt) returns returns-2 returns-3 returns-4 returns-5 returns-6)

@@ -3,14 +3,8 @@ use borrow.Author.Needs.{needs}
 use Rattle.registers.proofs.extra_oam.extra_oam_byte.Statement.{statement}
 use Rattle.registers.proofs.extra_oam.extra_oam_byte.Tie as tie
 
-array-read-result : tie.Need-array-read-result
-array-read-result c = search needs
-
 returns : tie.Need-returns
 returns c = rw (← c .before .extra-oam-index .ensures)
 
-returns-2 : tie.Need-returns-2
-returns-2 c = search needs
-
 pub extra-oam-byte-spec : {M : Type 1} → statement M
-extra-oam-byte-spec = tie.close (tie.spec (λ _ _. tt) array-read-result returns returns-2)
+extra-oam-byte-spec = tie.close (tie.spec (λ _ _. tt) (λ c. search needs) returns (λ c. search needs))
