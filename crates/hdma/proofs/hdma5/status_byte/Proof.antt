@@ -4,15 +4,6 @@ use borrow.Author.Needs.{needs}
 use Rattle.hdma.proofs.hdma5.status_byte.Statement.{statement}
 use Rattle.hdma.proofs.hdma5.status_byte.Tie as tie
 
-add-low : tie.Need-add-low
-add-low c = search needs
-
-cast-low : tie.Need-cast-low
-cast-low c = search needs
-
-add-pick8 : tie.Need-add-pick8
-add-pick8 c = search needs
-
 returns : tie.Need-returns
 unfolding statusByte
 returns c =
@@ -20,4 +11,7 @@ returns c =
     simp (c .pick8 .ensures, c .before .is-hblank .ensures, left .saturating-sub16 .ensures, left .before .wide .ensures .same)
 
 pub status-byte-spec : {M : Type 1} → statement M
-status-byte-spec = tie.close (tie.spec (λ _ _. tt) (λ _ _. tt) (λ _ _. tt) add-low cast-low add-pick8 (λ _ _. tt) returns)
+status-byte-spec =
+    tie.close
+    (tie.spec (λ _ _. tt) (λ _ _. tt) (λ _ _. tt) (λ c. search needs) (λ c. search needs) (λ c. search needs)
+    (λ _ _. tt) returns)

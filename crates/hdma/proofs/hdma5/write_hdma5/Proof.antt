@@ -5,12 +5,6 @@ use borrow.Author.Needs.{needs}
 use Rattle.hdma.proofs.hdma5.write_hdma5.Statement.{statement}
 use Rattle.hdma.proofs.hdma5.write_hdma5.Tie as tie
 
-add-length : tie.Need-add-length
-add-length c = search needs
-
-mul-length : tie.Need-mul-length
-mul-length c = search needs
-
 returns : tie.Need-returns
 unfolding hdma5Written
 returns c =
@@ -51,4 +45,5 @@ returns-3 c =
 pub write-hdma5-spec : {M : Type 1} → statement M
 write-hdma5-spec =
     tie.close
-    (tie.spec (λ _ _. tt) add-length mul-length (λ _ _. tt) (λ _ _. tt) (λ _ _. tt) returns (λ _ _. tt) returns-2 (λ _ _. tt) returns-3)
+    (tie.spec (λ _ _. tt) (λ c. search needs) (λ c. search needs) (λ _ _. tt) (λ _ _. tt) (λ _ _. tt) returns
+    (λ _ _. tt) returns-2 (λ _ _. tt) returns-3)
