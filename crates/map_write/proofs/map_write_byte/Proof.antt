@@ -5,15 +5,6 @@ use Rattle.map_write.proofs.Ram.{ram-state, ram-written, beyond-ram, ra
 use Rattle.map_write.proofs.map_write_byte.Statement.{statement}
 use Rattle.map_write.proofs.map_write_byte.Tie as tie
 
-enum-known-i : tie.Need-enum-known-i
-enum-known-i c = search needs
-
-enum-told : tie.Need-enum-told
-enum-told c = search needs
-
-same-length : tie.Need-same-length
-same-length c = search needs
-
 returns : tie.Need-returns
 returns c =
     let found = c .before .before .before .before .before in
@@ -36,4 +27,7 @@ returns-2 c =
     }
 
 pub map-write-byte-spec : {M : Type 1} → statement M
-map-write-byte-spec = tie.close (tie.spec (λ _ _. tt) enum-known-i (λ _ _. tt) enum-told (λ _ _. tt) same-length returns returns-2)
+map-write-byte-spec =
+    tie.close
+    (tie.spec (λ _ _. tt) (λ c. search needs) (λ _ _. tt) (λ c. search needs) (λ _ _. tt) (λ c. search needs) returns
+    returns-2)
