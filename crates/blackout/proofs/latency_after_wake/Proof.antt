@@ -3,12 +3,6 @@ use borrow.Author.Needs.{needs}
 use Rattle.blackout.proofs.latency_after_wake.Statement.{statement}
 use Rattle.blackout.proofs.latency_after_wake.Tie as tie
 
-enum-told : tie.Need-enum-told
-enum-told c = search needs
-
-enum-known-latency : tie.Need-enum-known-latency
-enum-known-latency c = search needs
-
 returns : tie.Need-returns
 returns c = simp (c .enum-told .given .1)
 
@@ -16,4 +10,4 @@ returns-2 : tie.Need-returns-2
 returns-2 c = simp (c .less-one-if .ensures, c .before .before .latency .given .1)
 
 pub latency-after-wake-spec : {M : Type 1} → statement M
-latency-after-wake-spec = tie.close (tie.spec enum-told enum-known-latency (λ _ _. tt) returns returns-2)
+latency-after-wake-spec = tie.close (tie.spec (λ c. search needs) (λ c. search needs) (λ _ _. tt) returns returns-2)
