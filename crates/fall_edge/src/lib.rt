@@ -1,77 +1,57 @@
 // The fall (vram_dma.rs, `vram_dma_fall_edge`): one evaluation on a falling dot clock edge, in stages
 // in document 01's order. Each stage makes anew only the part that it touches.
-mod arb;
-mod block;
-
 ghost use mathlib.Core.Path.{_≡_};
-ghost use Rattle.fall_edge.specs.View.{viewOf, gates};
-ghost use Rattle.fall_edge.specs.Stages.{stillOf, settledOf, observedOf, probationOf, haltLatchOf, gatedOf, blindsOf, commits, commitOf, tenureOf, pendOf, readinessOf, refilledOf, seizureOf};
-ghost use Rattle.fall_edge.specs.QuietFall.{quietOf};
-ghost use Rattle.fall_edge.specs.Fall.{startedOf, servedOf, decidedOf, ranOf, fallOf};
+ghost use Rattle.fall_stages.specs.Fall.{viewOf, gates, stillOf, settledOf, observedOf, probationOf, haltLatchOf, gatedOf, blindsOf, commits, commitOf, tenureOf, pendOf, readinessOf, refilledOf, seizureOf, startedOf, servedOf, decidedOf, ranOf, fallOf};
+ghost use Rattle.fall_stages.specs.QuietFall.{quietOf};
+ghost use Rattle.console.specs.Set.{withCursorQuota, withDmaCursor, withDmaBlock, withDmaArb};
 use console::VramDmaClaim;
 use console::same;
+use console::vram_dma::HaltArbiter;
+use console::vram_dma::HblankBlock;
 use console::vram_dma::VramDma;
+pub use fall_stages::FallInput;
+pub use fall_stages::Fallen;
+use fall_stages::View;
 
-// What a fall is given.
-pub struct FallInput {
-    // 0 to 3; 0 is HBlank.
-    pub mode: u8,
-    pub halted: bool,
-    pub irq_latched: bool,
-    pub stopped: bool,
-    pub master_edge: u64,
-    // OAM DMA owns a bus.
-    pub oam_owns_bus: bool,
+// Document 01's "gated": stopped, or halted without a latched IRQ.
+fn gates(i: FallInput) -> bool
+    ensures { λ r. ⌜ r ≡ gates i ⌝ }
+{
+    (i.halted & !i.irq_latched) | i.stopped
 }
 
-// What every stage of one fall sees.
-pub struct View {
-    pub in_hblank: bool,
-    // Mode 0 now and not at the previous fall: document 01's "entry".
-    pub entry_edge: bool,
-    pub cpu_halted: bool,
-    // The CPU was halted at the previous fall.
-    pub was_halted: bool,
-    // Mode HBlank.
-    pub armed: bool,
-    pub double_speed: bool,
-    pub master_edge: u64,
-    pub oam_owns_bus: bool,
-}
-
-// A fall's outcome: refused where an uncounted commit would raise granted from 255; the claim has both
-// flags false where nothing committed.
-pub struct Fallen {
-    pub refused: bool,
-    pub claim: VramDmaClaim,
-    pub dma: VramDma,
-}
-
-impl FallInput {
-    // Document 01's "gated": stopped, or halted without a latched IRQ.
-    fn gates(self) -> bool
-        ensures { λ r. ⌜ r ≡ gates self ⌝ }
-    {
-        (self.halted & !self.irq_latched) | self.stopped
+fn view(i: FallInput, d: VramDma, double_speed: bool) -> View
+    ensures { λ r. ⌜ r ≡ viewOf i «double_speed» d ⌝ }
+{
+    let c = d.cursor;
+    let mode = c.mode;
+    let armed = mode.is_hblank();
+    let in_hblank = i.mode == 0;
+    View {
+        in_hblank: in_hblank,
+        entry_edge: in_hblank & !d.arb.prev_view_hblank,
+        cpu_halted: i.halted,
+        was_halted: d.arb.prev_cpu_halted,
+        armed: armed,
+        double_speed: double_speed,
+        master_edge: i.master_edge,
+        oam_owns_bus: i.oam_owns_bus,
     }
+}
 
-    fn view(self, d: VramDma, double_speed: bool) -> View
-        ensures { λ r. ⌜ r ≡ viewOf self «double_speed» d ⌝ }
-    {
-        let c = d.cursor;
-        let mode = c.mode;
-        let armed = mode.is_hblank();
-        let in_hblank = self.mode == 0;
-        View {
-            in_hblank: in_hblank,
-            entry_edge: in_hblank & !d.arb.prev_view_hblank,
-            cpu_halted: self.halted,
-            was_halted: d.arb.prev_cpu_halted,
-            armed: armed,
-            double_speed: double_speed,
-            master_edge: self.master_edge,
-            oam_owns_bus: self.oam_owns_bus,
-        }
+// The engine with another quota, block and arbiter: a stage ends in it, and no stage lists the parts.
+fn with_parts(d: VramDma, quota: u8, block: HblankBlock, arb: HaltArbiter) -> VramDma
+    ensures { λ r. ⌜ r ≡ withDmaCursor (withCursorQuota quota (d .cursor)) (withDmaBlock block (withDmaArb arb d)) ⌝ }
+{
+    let cursor = same::cursor_with(d.cursor, quota);
+    let block = same::block(block);
+    let arb = same::arb(arb);
+    let oam = same::oam(d.oam);
+    VramDma {
+        cursor: cursor,
+        block: block,
+        arb: arb,
+        oam: oam,
     }
 }
 
@@ -109,67 +89,39 @@ fn quiet(d: VramDma, input: FallInput) -> bool
 fn settle_inert(d: VramDma, in_hblank: bool) -> VramDma
     ensures { λ r. ⌜ r ≡ settledOf in_hblank d ⌝ }
 {
-    let cursor = same::cursor_with(d.cursor, 0);
-    let block = block::settle(d.block, in_hblank);
-    let arb = arb::settle(d.arb, in_hblank);
-    let oam = same::oam(d.oam);
-    VramDma {
-        cursor: cursor,
-        block: block,
-        arb: arb,
-        oam: oam,
-    }
+    let block = hblank_block::settle(d.block, in_hblank);
+    let arb = halt_arbiter::settle(d.arb, in_hblank);
+    with_parts(d, 0, block, arb)
 }
 
 // The view, the halted falls, the taken-clear and a wake's blind.
 fn observe(d: VramDma, v: View) -> VramDma
     ensures { λ r. ⌜ r ≡ observedOf v d ⌝ }
 {
-    let arb = arb::observe(d.arb, v);
-    let clear = block::taken_clears(v, arb.halted_falls);
-    let block = block::keep_taken(d.block, clear);
-    let cursor = same::cursor(d.cursor);
-    let oam = same::oam(d.oam);
-    VramDma {
-        cursor: cursor,
-        block: block,
-        arb: arb,
-        oam: oam,
-    }
+    let arb = halt_arbiter::observe(d.arb, v);
+    let clear = hblank_block::taken_clears(v, arb.halted_falls);
+    let block = hblank_block::keep_taken(d.block, clear);
+    with_parts(d, d.cursor.quota, block, arb)
 }
 
 // A launch that readied outside mode 0 reverts.
 fn judge_probation(d: VramDma, v: View) -> VramDma
     ensures { λ r. ⌜ r ≡ probationOf v d ⌝ }
 {
-    let back = block::reverts(d.block, v);
-    let block = block::judge(d.block, back);
-    let arb = arb::ungrant(d.arb, back);
-    let cursor = same::cursor(d.cursor);
-    let oam = same::oam(d.oam);
-    VramDma {
-        cursor: cursor,
-        block: block,
-        arb: arb,
-        oam: oam,
-    }
+    let back = hblank_block::reverts(d.block, v);
+    let block = hblank_block::judge(d.block, back);
+    let arb = halt_arbiter::ungrant(d.arb, back);
+    with_parts(d, d.cursor.quota, block, arb)
 }
 
 // A block not yet ready at the halt latch becomes a granted pend.
 fn join_halt(d: VramDma, v: View) -> VramDma
     ensures { λ r. ⌜ r ≡ haltLatchOf v d ⌝ }
 {
-    let joins = block::joins_halt(d.block, v);
-    let block = block::drop_if(d.block, joins);
-    let arb = arb::join_halt(d.arb, v.cpu_halted, joins);
-    let cursor = same::cursor(d.cursor);
-    let oam = same::oam(d.oam);
-    VramDma {
-        cursor: cursor,
-        block: block,
-        arb: arb,
-        oam: oam,
-    }
+    let joins = hblank_block::joins_halt(d.block, v);
+    let block = hblank_block::drop_if(d.block, joins);
+    let arb = halt_arbiter::join_halt(d.arb, v.cpu_halted, joins);
+    with_parts(d, d.cursor.quota, block, arb)
 }
 
 // Steps 3 and 4: what is done gated or not.
@@ -184,16 +136,7 @@ fn refill(d: VramDma, double_speed: bool) -> VramDma
 {
     let moving = transfer::pair::moving(d);
     let quota = transfer::pair::quota(moving, double_speed);
-    let cursor = same::cursor_with(d.cursor, quota);
-    let block = same::block(d.block);
-    let arb = same::arb(d.arb);
-    let oam = same::oam(d.oam);
-    VramDma {
-        cursor: cursor,
-        block: block,
-        arb: arb,
-        oam: oam,
-    }
+    with_parts(d, quota, d.block, d.arb)
 }
 
 // Step 5: a pend ages, and an entry in the halt pends or grants.
@@ -201,65 +144,35 @@ fn gate(d: VramDma, v: View) -> VramDma
     ensures { λ r. ⌜ r ≡ gatedOf v d ⌝ }
 {
     let pends = v.cpu_halted & v.entry_edge & v.armed & !d.block.taken & (d.cursor.remaining > 0);
-    let arb = arb::in_halt(d.arb, v, pends, d.cursor.remaining / 16);
-    let cursor = same::cursor(d.cursor);
-    let block = same::block(d.block);
-    let oam = same::oam(d.oam);
-    let aged = VramDma {
-        cursor: cursor,
-        block: block,
-        arb: arb,
-        oam: oam,
-    };
-    refill(aged, v.double_speed)
+    let arb = halt_arbiter::in_halt(d.arb, v, pends, d.cursor.remaining / 16);
+    refill(with_parts(d, d.cursor.quota, d.block, arb), v.double_speed)
 }
 
 fn step_blinds(d: VramDma, v: View) -> VramDma
     ensures { λ r. ⌜ r ≡ blindsOf v d ⌝ }
 {
-    let ticked = arb::step_blinds(d.arb, v);
+    let ticked = halt_arbiter::step_blinds(d.arb, v);
     let arb = ticked.arb;
-    let block = block::take_if(d.block, ticked.passed_over);
-    let cursor = same::cursor(d.cursor);
-    let oam = same::oam(d.oam);
-    VramDma {
-        cursor: cursor,
-        block: block,
-        arb: arb,
-        oam: oam,
-    }
+    let block = hblank_block::take_if(d.block, ticked.passed_over);
+    with_parts(d, d.cursor.quota, block, arb)
 }
 
 fn commit(d: VramDma, v: View, committing: bool) -> VramDma
     ensures { λ r. ⌜ r ≡ commitOf committing v d ⌝ }
 {
-    let arb = arb::commit(d.arb, v, committing);
-    let block = block::commit(d.block, v, d.arb, committing);
-    let cursor = same::cursor(d.cursor);
-    let oam = same::oam(d.oam);
-    VramDma {
-        cursor: cursor,
-        block: block,
-        arb: arb,
-        oam: oam,
-    }
+    let arb = halt_arbiter::commit(d.arb, v, committing);
+    let block = hblank_block::commit(d.block, v, d.arb, committing);
+    with_parts(d, d.cursor.quota, block, arb)
 }
 
 // The wake drain's tenure consumes an entry that lands in it.
 fn step_tenure(d: VramDma, v: View) -> VramDma
     ensures { λ r. ⌜ r ≡ tenureOf v d ⌝ }
 {
-    let ticked = arb::step_tenure(d.arb, v, d.cursor.remaining > 0);
+    let ticked = halt_arbiter::step_tenure(d.arb, v, d.cursor.remaining > 0);
     let arb = ticked.arb;
-    let block = block::take_if(d.block, ticked.passed_over);
-    let cursor = same::cursor(d.cursor);
-    let oam = same::oam(d.oam);
-    VramDma {
-        cursor: cursor,
-        block: block,
-        arb: arb,
-        oam: oam,
-    }
+    let block = hblank_block::take_if(d.block, ticked.passed_over);
+    with_parts(d, d.cursor.quota, block, arb)
 }
 
 fn renew_pend(d: VramDma, v: View, committing: bool) -> VramDma
@@ -271,47 +184,23 @@ fn renew_pend(d: VramDma, v: View, committing: bool) -> VramDma
         & !d.block.taken
         & (d.cursor.remaining > 0)
         & (d.block.remaining == 0);
-    let arb = arb::renew_pend(d.arb, pends);
-    let block = same::block(d.block);
-    let cursor = same::cursor(d.cursor);
-    let oam = same::oam(d.oam);
-    VramDma {
-        cursor: cursor,
-        block: block,
-        arb: arb,
-        oam: oam,
-    }
+    let arb = halt_arbiter::renew_pend(d.arb, pends);
+    with_parts(d, d.cursor.quota, d.block, arb)
 }
 
 fn step_readiness(d: VramDma, double_speed: bool) -> VramDma
     ensures { λ r. ⌜ r ≡ readinessOf «double_speed» d ⌝ }
 {
-    let block = block::step_readiness(d.block, double_speed);
-    let arb = same::arb(d.arb);
-    let cursor = same::cursor(d.cursor);
-    let oam = same::oam(d.oam);
-    VramDma {
-        cursor: cursor,
-        block: block,
-        arb: arb,
-        oam: oam,
-    }
+    let block = hblank_block::step_readiness(d.block, double_speed);
+    with_parts(d, d.cursor.quota, block, d.arb)
 }
 
 fn count_seizure(d: VramDma) -> VramDma
     ensures { λ r. ⌜ r ≡ seizureOf d ⌝ }
 {
     let seizes = transfer::seizes_bus(d);
-    let block = block::count_seizure(d.block, seizes);
-    let arb = same::arb(d.arb);
-    let cursor = same::cursor(d.cursor);
-    let oam = same::oam(d.oam);
-    VramDma {
-        cursor: cursor,
-        block: block,
-        arb: arb,
-        oam: oam,
-    }
+    let block = hblank_block::count_seizure(d.block, seizes);
+    with_parts(d, d.cursor.quota, block, d.arb)
 }
 
 fn committing(d: VramDma, v: View) -> bool
@@ -394,7 +283,7 @@ pub fn fall_edge(d: VramDma, double_speed: bool, input: FallInput) -> Fallen
             dma: dma,
         };
     }
-    let v = input.view(d, double_speed);
-    let gated = input.gates();
+    let v = view(input, d, double_speed);
+    let gated = gates(input);
     run(d, v, gated)
 }

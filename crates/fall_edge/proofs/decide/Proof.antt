@@ -1,5 +1,5 @@
 -- `decide` meets its contract. Assumes nothing.
-use Rattle.fall_edge.specs.Fall.{decidedOf}
+use Rattle.fall_stages.specs.Fall.{decidedOf}
 use Rattle.fall_edge.proofs.decide.Statement.{statement}
 use Rattle.fall_edge.proofs.decide.Tie as tie
 

@@ -1,6 +1,6 @@
 -- `fall_edge` meets its contract: by the shorter way where it is quiet, else by the steps. Assumes nothing.
 use mathlib.Core.Path.{sym}
-use Rattle.fall_edge.proofs.QuietFall.{quiet-fall, loud-fall}
+use Rattle.fall_stages.proofs.QuietFall.{quiet-fall, loud-fall}
 use Rattle.fall_edge.proofs.fall_edge.Statement.{statement}
 use Rattle.fall_edge.proofs.fall_edge.Tie as tie
 

@@ -1,5 +1,5 @@
 -- `run` meets its contract. Assumes nothing.
-use Rattle.fall_edge.specs.Fall.{ranOf}
+use Rattle.fall_stages.specs.Fall.{ranOf}
 use Rattle.fall_edge.proofs.run.Statement.{statement}
 use Rattle.fall_edge.proofs.run.Tie as tie
 

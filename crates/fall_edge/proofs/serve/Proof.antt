@@ -1,5 +1,5 @@
 -- `serve` meets its contract. Assumes nothing.
-use Rattle.fall_edge.specs.Fall.{servedOf}
+use Rattle.fall_stages.specs.Fall.{servedOf}
 use Rattle.fall_edge.proofs.serve.Statement.{statement}
 use Rattle.fall_edge.proofs.serve.Tie as tie
 

@@ -1,5 +1,5 @@
 -- `start` meets its contract. Assumes nothing.
-use Rattle.fall_edge.specs.Fall.{startedOf}
+use Rattle.fall_stages.specs.Fall.{startedOf}
 use Rattle.fall_edge.proofs.start.Statement.{statement}
 use Rattle.fall_edge.proofs.start.Tie as tie
 

@@ -1,9 +1,0 @@
-pub mod View
-pub mod Stages
-pub mod Fall
-pub mod QuietFall
-pub mod Steps
-pub mod Once
-pub mod StageSteps
-pub mod Refills
-pub mod Windows

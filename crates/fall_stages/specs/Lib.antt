@@ -1,0 +1,7 @@
+pub mod Fall
+pub mod QuietFall
+pub mod StageSteps
+pub mod Steps
+pub mod Once
+pub mod Refills
+pub mod Windows
