@@ -6,7 +6,10 @@ use Rattle.countdown.specs.Countdown.{armed, activeOf}
 use Rattle.console.specs.Modes.{isHBlank}
 use Rattle.console.specs.declared.vram_dma.HaltArbiter.{HaltArbiter}
 use Rattle.console.specs.declared.vram_dma.VramDma.{VramDma}
-use Rattle.fall_stages.specs.Fall.{viewOf, gates, observedArb, observedOf, ungrantedArb, probationOf, haltLatchArb, haltLatchOf, refilledOf, blindsArb, blindsOf, commits, commitBlock, commitArb, commitOf, tenureArb, tenureOf, pends, pendArb, pendOf, readiedBlock, readinessOf, seizedBlock, seizureOf, startedOf, servedOf, fallOf}
+use Rattle.fall_stages.specs.Fall.{viewOf, gates, observedArb, observedOf, ungrantedArb, probationOf, haltLatchArb, haltLatchOf}
+use Rattle.fall_stages.specs.Fall.{refilledOf, blindsArb, blindsOf, commits, commitBlock, commitArb, commitOf, tenureArb, tenureOf}
+use Rattle.fall_stages.specs.Fall.{pends, pendArb, pendOf, readiedBlock, readinessOf, seizedBlock, seizureOf, startedOf, servedOf}
+use Rattle.fall_stages.specs.Fall.{fallOf}
 use Rattle.fall_stages.specs.Steps.{settles, reaches6}
 use Rattle.fall_stages.specs.Windows.{atStep, tenureOf36, passes, Entries}
 use Rattle.fall_stages.specs.declared.FallInput.{FallInput}
@@ -225,4 +228,6 @@ module _ (i : FallInput) (double : Bool) (d : VramDma) where
       ∙ rw (started-claim (v i double d) d, started-tenure (v i double d) d, started-cursor (v i double d) d)))
 
 pub entries : (i : FallInput) (double : Bool) (d : VramDma) → Entries i double d
-entries i double d = record { taken = entry-taken i double d (course i double d); pend = entry-pend i double d (course i double d); claim = entry-claim i double d (course i double d) }
+entries i double d =
+    let c = course i double d in
+    record { taken = entry-taken i double d c; pend = entry-pend i double d c; claim = entry-claim i double d c }

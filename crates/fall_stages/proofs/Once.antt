@@ -5,22 +5,19 @@ use mathlib.Core.Path.{_≡_, refl, sym, _∙_}
 use mathlib.Core.Bool.{Bool, true, false, cond, _&&_, and-false, false≢true}
 use mathlib.Core.List.{List, [], _∷_}
 use lib.Dec.{ltb, lit≤}
-use borrow.Author.Tests.{eq-eqb}
 use Rattle.console.specs.declared.vram_dma.VramDma.{VramDma}
 use Rattle.transfer.specs.Latch.{latchedBlock, latchedOf, unclaimed, latchesDark, lcdDisabledOf}
 use Rattle.transfer.specs.Pair.{movingOf, blockAfter, arbAfter, advancedOf, pairOf, nextByteOf, withQuota, drainOf}
 use Rattle.transfer.specs.declared.pair.NextAnswer.the-variants.{Pair, None}
 use Rattle.transfer.specs.declared.pair.NextByte.{NextByte}
-use Rattle.fall_stages.specs.Fall.{viewOf, settledOf, observedArb, observedOf, judgedBlock, ungrantedArb, probationOf, droppedBlock, haltLatchArb, haltLatchOf, blindsArb, blindsOf, commits, commitBlock, commitOf, tenureOf, pends, pendArb, pendOf, readiedBlock, readinessOf, refilledOf, seizedBlock, seizureOf, startedOf, servedOf, fallOf}
-use Rattle.fall_stages.specs.Once.{Runs, AllRun, Between, OtherCalls, Period, over, fall, OnceAmong, commitsIn, Once}
+use Rattle.fall_stages.specs.Fall.{viewOf, settledOf, observedArb, observedOf, judgedBlock, ungrantedArb, probationOf, droppedBlock}
+use Rattle.fall_stages.specs.Fall.{haltLatchArb, haltLatchOf, blindsArb, blindsOf, commits, commitBlock, commitOf, tenureOf, pends}
+use Rattle.fall_stages.specs.Fall.{pendArb, pendOf, readiedBlock, readinessOf, refilledOf, seizedBlock, seizureOf, startedOf}
+use Rattle.fall_stages.specs.Fall.{servedOf, fallOf}
+use Rattle.fall_stages.specs.Once.{Running, AllRun, Between, OtherCalls, Period, over, fall, other, Spent, Spends, OnceAmong, commitsIn, Once}
 use Rattle.fall_stages.specs.declared.FallInput.{FallInput}
 use Rattle.fall_stages.specs.declared.View.{View}
 use Rattle.fall_stages.proofs.Steps.{Course, settled, gated, overflowed, served, course, committed-step}
-
--- the HBlank is taken and no pend stands
-pub record Spent (d : VramDma) : Type 0 where
-  pub taken : d .block .taken ≡ true
-  pub pend : d .arb .pend ≡ false
 
 -- what a running fall in mode 0 sees
 record Inside (v : View) : Type 0 where
@@ -58,15 +55,15 @@ module _ (v : View) (h : Inside v) (d : VramDma) (k : Spent d) where
   served-spent =
       record { taken = pend-taken false v (tenureOf v (commitOf false v d)) ∙ kept; pend = no-pend false v (tenureOf v (commitOf false v d)) kept }
 
-module _ (i : FallInput) (double : Bool) (d : VramDma) (r : Runs i) where
+module _ (i : FallInput) (double : Bool) (d : VramDma) (r : Running true i) where
   sees : Inside (viewOf i double d)
   unfolding viewOf
-  sees = record { hblank = eq-eqb (i .mode) 0 (r .mode); running = r .running }
+  sees = record { hblank = r .place; running = r .running }
 
   -- a spent period stays spent, and commits nothing
-  spent-step : Course i double d → Spent d → (fallOf i double d .claim .committed ≡ false) × Spent (fallOf i double d .dma)
+  pub spent-step : Course i double d → Spent d → (fallOf i double d .claim .committed ≡ false) × Spent (fallOf i double d .dma)
   unfolding settledOf
-  spent-step (settled p e) k = rw e (refl, record { taken = rw (k .taken) (eq-eqb (i .mode) 0 (r .mode)); pend = k .pend })
+  spent-step (settled p e) k = rw e (refl, record { taken = rw (k .taken) (r .place); pend = k .pend })
   spent-step (gated p g e) k = absurd (false≢true (sym (rw (r .running, r .going)) ∙ g))
   spent-step (overflowed p g o e) k = rw e (refl, k)
   spent-step (served p g o e) k =
@@ -76,33 +73,41 @@ module _ (i : FallInput) (double : Bool) (d : VramDma) (r : Runs i) where
       let n : commits w x ≡ false = no-commit w sees x b in
       rw (e, n) (refl, served-spent w sees x b)
 
-  -- a commit spends the period
-  commit-spends : fallOf i double d .claim .committed ≡ true → Spent (fallOf i double d .dma)
-  commit-spends c = record { taken = committed-step i double d c .1; pend = committed-step i double d c .3 }
+-- a commit spends the period
+pub commit-spends : (i : FallInput) (double : Bool) (d : VramDma) → fallOf i double d .claim .committed ≡ true → Spent (fallOf i double d .dma)
+commit-spends i double d c = record { taken = committed-step i double d c .1; pend = committed-step i double d c .3 }
 
 -- what comes between keeps a spent period spent
-kept-spent : {d e : VramDma} → Between d e → Spent d → Spent e
+pub kept-spent : {d e : VramDma} → Between d e → Spent d → Spent e
 kept-spent b k = record { taken = b .taken (k .taken); pend = b .pend (k .pend) }
+
+pub spends : (i : FallInput) (double : Bool) (d : VramDma) → Spends i double d
+spends i double d =
+    record {
+      commit = commit-spends i double d;
+      none = λ r k. spent-step i double d r (course i double d) k .0;
+      stays = λ r k. spent-step i double d r (course i double d) k .1;
+      between = λ e b k. kept-spent b k;
+    }
 
 pub spent-none : {d : VramDma} {n : ℕ} → Period d n → Spent d → n ≡ 0
 spent-none (over d) k = refl
-spent-none (fall i double d e n r b rest) k =
-    let s : (fallOf i double d .claim .committed ≡ false) × Spent (fallOf i double d .dma) = spent-step i double d r (course i double d) k in
-    let z : n ≡ 0 = spent-none rest (kept-spent b (s .1)) in
-    rw (s .0) (omega arith)
+spent-none (fall i double d n r rest) k =
+    let s = spends i double d in
+    let z : n ≡ 0 = spent-none rest (s .stays r k) in
+    rw (s .none r k) (omega arith)
+spent-none (other d e n b rest) k = spent-none rest (kept-spent b k)
 
 one-fall :
-    (c : Bool) (i : FallInput) (double : Bool) (d e : VramDma) (n : ℕ) →
-    fallOf i double d .claim .committed ≡ c → Runs i → Between (fallOf i double d .dma) e → Period e n → n ≤ 1 →
-    cond (fallOf i double d .claim .committed) 1 0 + n ≤ 1
-one-fall true i double d e n c r b rest h =
-    let z : n ≡ 0 = spent-none rest (kept-spent b (commit-spends i double d r c)) in rw c (omega arith)
-one-fall false i double d e n c r b rest h = rw c (omega arith)
+    (c : Bool) (i : FallInput) (double : Bool) (d : VramDma) (n : ℕ) → fallOf i double d .claim .committed ≡ c →
+    Period (fallOf i double d .dma) n → n ≤ 1 → cond (fallOf i double d .claim .committed) 1 0 + n ≤ 1
+one-fall true i double d n c rest h = let z : n ≡ 0 = spent-none rest (commit-spends i double d c) in rw c (omega arith)
+one-fall false i double d n c rest h = rw c (omega arith)
 
 at-most : {d : VramDma} {n : ℕ} → Period d n → n ≤ 1
 at-most (over d) = lit≤ tt
-at-most (fall i double d e n r b rest) =
-    one-fall (fallOf i double d .claim .committed) i double d e n refl r b rest (at-most rest)
+at-most (fall i double d n r rest) = one-fall (fallOf i double d .claim .committed) i double d n refl rest (at-most rest)
+at-most (other d e n b rest) = at-most rest
 
 pub once-among : OnceAmong
 once-among d n period = at-most period
@@ -140,14 +145,21 @@ lcd-off false d = same refl refl
 
 pub other-calls : (d : VramDma) → OtherCalls d
 unfolding lcdDisabledOf
-other-calls d = record { pair = pair d; drain = drain d; lcd-off = lcd-off (latchesDark d) d; retired = same refl refl }
+other-calls d =
+    record {
+      pair = pair d;
+      drain = drain d;
+      lcd-off = lcd-off (latchesDark d) d;
+      retired = same refl refl;
+      cell = λ cells. same refl refl;
+      arbitration = λ oam. same refl refl;
+    }
 
 -- a list of falls is such a run, with nothing between
 listed : (is : List FallInput) (double : Bool) (d : VramDma) → AllRun is → Period d (commitsIn is double d)
 listed [] double d a = over d
 listed (i ∷ is) double d a =
-    let e : VramDma = fallOf i double d .dma in
-    fall i double d e (commitsIn is double e) (a .0) (record { taken = λ t. t; pend = λ p. p }) (listed is double e (a .1))
+    let e : VramDma = fallOf i double d .dma in fall i double d (commitsIn is double e) (a .0) (listed is double e (a .1))
 
 pub once : Once
 once is double d a = at-most (listed is double d a)

@@ -7,6 +7,10 @@ use borrow.Author.Tests.{eqb-true, ltb-false, not-true}
 use Rattle.countdown.specs.Countdown.{cleared, activeOf}
 use Rattle.countdown.specs.declared.Countdown.{Countdown}
 use Rattle.console.specs.Modes.{isGeneral, isHBlank}
+use Rattle.console.specs.Set.{withCursorMode, withBlockRemaining, withBlockTaken, withBlockSetupCells, withBlockReadyIn, withBlockFromArm}
+use Rattle.console.specs.Set.{withBlockArmReadyProbation, withArbPend, withArbPendGranted, withArbArmedThisFall, withArbWakeTenure}
+use Rattle.console.specs.Set.{withArbIdleClaim, withArbHaltWakeBlind, withArbPrevCpuHalted, withArbWakePendBlind, withDmaCursor}
+use Rattle.console.specs.Set.{withDmaBlock, withDmaArb}
 use Rattle.console.specs.declared.vram_dma.HaltArbiter.{HaltArbiter}
 use Rattle.console.specs.declared.vram_dma.HblankBlock.{HblankBlock}
 use Rattle.console.specs.declared.vram_dma.TransferMode.{TransferMode}
@@ -14,62 +18,37 @@ use Rattle.console.specs.declared.vram_dma.TransferMode.the-variants.{Idle, Gen
 use Rattle.console.specs.declared.vram_dma.VramDma.{VramDma}
 use Rattle.transfer.specs.Pair.{movingOf}
 use Rattle.transfer.specs.Questions.{seizesBus}
-use Rattle.fall_stages.specs.Fall.{viewOf, gates, stillOf, settledOf, observedArb, observedOf, judgedBlock, ungrantedArb, probationOf, droppedBlock, haltLatchArb, haltLatchOf, refilledOf, blindsArb, blindsOf, commitBlock, commitArb, commitOf, tenureArb, tenureOf, pendArb, pendOf, readiedBlock, readinessOf, seizedBlock, seizureOf, startedOf, servedOf, decidedOf, ranOf, fallOf, noClaim, fell}
+use Rattle.fall_stages.specs.Fall.{viewOf, gates, stillBlock, stillArb, stillOf, settledOf, observedArb, observedOf, judgedBlock}
+use Rattle.fall_stages.specs.Fall.{ungrantedArb, probationOf, droppedBlock, haltLatchArb, haltLatchOf, refilledOf, blindsArb}
+use Rattle.fall_stages.specs.Fall.{blindsOf, commitBlock, commitArb, commitOf, tenureArb, tenureOf, pendArb, pendOf, readiedBlock}
+use Rattle.fall_stages.specs.Fall.{readinessOf, seizedBlock, seizureOf, startedOf, servedOf, decidedOf, ranOf, fallOf, noClaim}
+use Rattle.fall_stages.specs.Fall.{fell}
+use Rattle.fall_stages.specs.Steps.{settles, AtRest, Settles}
 use Rattle.fall_stages.specs.QuietFall.{wants, quietOf, Quiet}
 use Rattle.fall_stages.specs.declared.FallInput.{FallInput}
 use Rattle.fall_stages.specs.declared.Fallen.{Fallen}
 use Rattle.fall_stages.specs.declared.View.{View}
 
 -- ---- a still engine, with the fields that are tested written out
-abbrev stillBlock : Bool → Bool → HblankBlock → HblankBlock
-stillBlock taken arm b =
-    record {
-      remaining = 0;
-      «start_edge» = b .«start_edge»;
-      taken = taken;
-      «setup_cells» = cleared;
-      «ready_in» = cleared;
-      «seize_falls» = b .«seize_falls»;
-      «from_arm» = arm;
-      «arm_ready_probation» = false;
-    }
+abbrev restBlock : Bool → Bool → HblankBlock → HblankBlock
+restBlock taken arm b =
+    withBlockTaken taken
+    (withBlockFromArm arm
+    (withBlockRemaining 0 (withBlockSetupCells cleared (withBlockReadyIn cleared (withBlockArmReadyProbation false b)))))
 
-abbrev stillArb : Bool → HaltArbiter → HaltArbiter
-stillArb claim a =
-    record {
-      pend = false;
-      «pend_from_arm» = a .«pend_from_arm»;
-      «armed_this_fall» = false;
-      «halted_falls» = a .«halted_falls»;
-      «prev_view_hblank» = a .«prev_view_hblank»;
-      «pend_age» = a .«pend_age»;
-      «pend_granted» = false;
-      «wake_tenure» = cleared;
-      «park_waits_for_fetch» = a .«park_waits_for_fetch»;
-      «idle_claim» = claim;
-      «halt_wake_blind» = cleared;
-      «prev_cpu_halted» = false;
-      «grant_counted» = a .«grant_counted»;
-      «wake_pend_blind» = cleared;
-      «granted_ahead» = a .«granted_ahead»;
-    }
+abbrev restArb : Bool → HaltArbiter → HaltArbiter
+restArb claim a =
+    withArbIdleClaim claim
+    (withArbPend false
+    (withArbPendGranted false
+    (withArbPrevCpuHalted false
+    (withArbArmedThisFall false
+    (withArbHaltWakeBlind cleared (withArbWakePendBlind cleared (withArbWakeTenure cleared a)))))))
 
-abbrev stillDma : TransferMode → Bool → Bool → Bool → VramDma → VramDma
-stillDma mode taken arm claim d =
-    record {
-      cursor =
-          record {
-            source = d .cursor .source;
-            dest = d .cursor .dest;
-            mode = mode;
-            remaining = d .cursor .remaining;
-            quota = d .cursor .quota;
-            «escape_byte» = d .cursor .«escape_byte»;
-          };
-      block = stillBlock taken arm (d .block);
-      arb = stillArb claim (d .arb);
-      oam = d .oam;
-    }
+abbrev restDma : TransferMode → Bool → Bool → Bool → VramDma → VramDma
+restDma mode taken arm claim d =
+    withDmaCursor (withCursorMode mode (d .cursor))
+    (withDmaBlock (restBlock taken arm (d .block)) (withDmaArb (restArb claim (d .arb)) d))
 
 abbrev runningView : Bool → TransferMode → Bool → FallInput → VramDma → View
 runningView hblank mode double i d =
@@ -86,14 +65,16 @@ runningView hblank mode double i d =
 
 -- ---- its steps 3 to 6, running, where it wants nothing
 abbrev settled : TransferMode → Bool → Bool → Bool → Bool → VramDma → Fallen
-settled mode hblank taken arm claim d = fell noClaim (settledOf hblank (stillDma mode taken arm claim d))
+settled mode hblank taken arm claim d = fell noClaim (settledOf hblank (restDma mode taken arm claim d))
 
 ran-steps :
     (mode : TransferMode) (hblank taken arm claim double : Bool) (i : FallInput) (d : VramDma) →
     not (isGeneral mode || (isHBlank mode && hblank && not taken)) ≡ true →
-    ranOf false (runningView hblank mode double i d) (stillDma mode taken arm claim d)
+    ranOf false (runningView hblank mode double i d) (restDma mode taken arm claim d)
     ≡ settled mode hblank taken (arm && true) (claim || false) d
-unfolding ranOf decidedOf servedOf startedOf settledOf observedOf observedArb probationOf judgedBlock ungrantedArb haltLatchOf droppedBlock haltLatchArb blindsOf blindsArb commitOf commitBlock commitArb tenureOf tenureArb pendOf pendArb readinessOf readiedBlock refilledOf movingOf seizureOf seizedBlock seizesBus
+unfolding ranOf decidedOf servedOf startedOf settledOf observedOf observedArb probationOf judgedBlock ungrantedArb
+    haltLatchOf droppedBlock haltLatchArb blindsOf blindsArb commitOf commitBlock commitArb tenureOf tenureArb
+    pendOf pendArb readinessOf readiedBlock refilledOf movingOf seizureOf seizedBlock seizesBus
 ran-steps Idle true true arm claim double i d e = refl
 ran-steps Idle true false arm claim double i d e = refl
 ran-steps Idle false true arm claim double i d e = refl
@@ -107,123 +88,93 @@ ran-steps HBlank false false arm claim double i d e = refl
 ran :
     (mode : TransferMode) (hblank taken arm claim double : Bool) (i : FallInput) (d : VramDma) →
     not (isGeneral mode || (isHBlank mode && hblank && not taken)) ≡ true →
-    ranOf false (runningView hblank mode double i d) (stillDma mode taken arm claim d) ≡ settled mode hblank taken arm claim d
+    ranOf false (runningView hblank mode double i d) (restDma mode taken arm claim d) ≡ settled mode hblank taken arm claim d
 ran mode hblank taken arm claim double i d e =
     ran-steps mode hblank taken arm claim double i d e
     ∙ (ap (λ x. settled mode hblank taken x (claim || false) d) (and-true arm)
     ∙ ap (λ x. settled mode hblank taken arm x d) (or-false claim))
 
--- ---- a still engine is one with these fields written out
+-- ---- step 1's test, taken apart
+rests : (c : Countdown) → not (activeOf c) ≡ true → c ≡ cleared
+rests c e = let none = ltb-false 0 (c .0) (not-true _ e) in let zero : c .0 ≡ 0 = omega arith in λ k. record { 0 = zero k }
+
+both : (a b : Bool) → (a && b) ≡ true → (a ≡ true) × (b ≡ true)
+both true b e = (refl, e)
+both false b e = absurd (false≢true e)
+
 first : (a b : Bool) → (a && b) ≡ true → a ≡ true
-first true b e = refl
-first false b e = e
+first a b e = both a b e .0
 
 second : (a b : Bool) → (a && b) ≡ true → b ≡ true
-second true b e = e
-second false b e = absurd (false≢true e)
+second a b e = both a b e .1
 
-resting : (c : Countdown) → not (activeOf c) ≡ true → cleared ≡ c
-resting c e = let none = ltb-false 0 (c .0) (not-true _ e) in let zero : 0 ≡ c .0 = omega arith in λ k. record { 0 = zero k }
-
-dropped : (b : Bool) → not b ≡ true → false ≡ b
-dropped b e = sym (not-true b e)
-
--- eleven tests, each one
-each :
-    (a b c d e f g h i j k : Bool) →
-    (a && b && c && d && e && f && g && h && i && j && k) ≡ true →
-    (a ≡ true) × (b ≡ true) × (c ≡ true) × (d ≡ true) × (e ≡ true) × (f ≡ true) × (g ≡ true) × (h ≡ true) × (i ≡ true) × (j ≡ true) × (k ≡ true)
-each a b c d e f g h i j k e11 =
-    let e10 = first (a && b && c && d && e && f && g && h && i && j) k e11 in
-    let e9 = first (a && b && c && d && e && f && g && h && i) j e10 in
-    let e8 = first (a && b && c && d && e && f && g && h) i e9 in
-    let e7 = first (a && b && c && d && e && f && g) h e8 in
-    let e6 = first (a && b && c && d && e && f) g e7 in
-    let e5 = first (a && b && c && d && e) f e6 in
-    let e4 = first (a && b && c && d) e e5 in
-    let e3 = first (a && b && c) d e4 in
-    let e2 = first (a && b) c e3 in
-    (first a b e2, second a b e2, second (a && b) c e3, second (a && b && c) d e4, second (a && b && c && d) e e5, second (a && b && c && d && e) f e6, second (a && b && c && d && e && f) g e7, second (a && b && c && d && e && f && g) h e8, second (a && b && c && d && e && f && g && h) i e9, second (a && b && c && d && e && f && g && h && i) j e10, second (a && b && c && d && e && f && g && h && i && j) k e11)
-
-still :
-    (d : VramDma) →
-    stillOf d ≡ true →
-    stillDma (d .cursor .mode) (d .block .taken) (d .block .«from_arm») (d .arb .«idle_claim») d ≡ d
-still d e =
-    let all =
-    each (eqb (d .block .remaining) 0) (not (activeOf (d .block .«setup_cells»))) (not (activeOf (d .block .«ready_in»)))
-    (not (d .block .«arm_ready_probation»)) (not (d .arb .pend)) (not (d .arb .«pend_granted»))
-    (not (d .arb .«prev_cpu_halted»)) (not (d .arb .«armed_this_fall»)) (not (activeOf (d .arb .«halt_wake_blind»)))
-    (not (activeOf (d .arb .«wake_pend_blind»))) (not (activeOf (d .arb .«wake_tenure»))) e in
-    let remaining = sym (eqb-true (d .block .remaining) 0 (all .0)) in
-    let setup = resting (d .block .«setup_cells») (all .1) in
-    let ready = resting (d .block .«ready_in») (all .2) in
-    let probation = dropped (d .block .«arm_ready_probation») (all .3) in
-    let pend = dropped (d .arb .pend) (all .4) in
-    let granted = dropped (d .arb .«pend_granted») (all .5) in
-    let halted = dropped (d .arb .«prev_cpu_halted») (all .6) in
-    let strobe = dropped (d .arb .«armed_this_fall») (all .7) in
-    let blind = resting (d .arb .«halt_wake_blind») (all .8) in
-    let wake = resting (d .arb .«wake_pend_blind») (all .9) in
-    let tenure = resting (d .arb .«wake_tenure») (all .10) in
-    λ k.
-    record {
-      cursor = d .cursor;
-      block =
-          record {
-            remaining = remaining k;
-            «start_edge» = d .block .«start_edge»;
-            taken = d .block .taken;
-            «setup_cells» = setup k;
-            «ready_in» = ready k;
-            «seize_falls» = d .block .«seize_falls»;
-            «from_arm» = d .block .«from_arm»;
-            «arm_ready_probation» = probation k;
-          };
-      arb =
-          record {
-            pend = pend k;
-            «pend_from_arm» = d .arb .«pend_from_arm»;
-            «armed_this_fall» = strobe k;
-            «halted_falls» = d .arb .«halted_falls»;
-            «prev_view_hblank» = d .arb .«prev_view_hblank»;
-            «pend_age» = d .arb .«pend_age»;
-            «pend_granted» = granted k;
-            «wake_tenure» = tenure k;
-            «park_waits_for_fetch» = d .arb .«park_waits_for_fetch»;
-            «idle_claim» = d .arb .«idle_claim»;
-            «halt_wake_blind» = blind k;
-            «prev_cpu_halted» = halted k;
-            «grant_counted» = d .arb .«grant_counted»;
-            «wake_pend_blind» = wake k;
-            «granted_ahead» = d .arb .«granted_ahead»;
-          };
-      oam = d .oam;
-    }
-
--- at rest no countdown runs, and no halt is to unwind
-pub record AtRest (d : VramDma) : Type 0 where
-  pub setup : cleared ≡ d .block .«setup_cells»
-  pub ready : cleared ≡ d .block .«ready_in»
-  pub blind3 : cleared ≡ d .arb .«halt_wake_blind»
-  pub blind6 : cleared ≡ d .arb .«wake_pend_blind»
-  pub tenure : cleared ≡ d .arb .«wake_tenure»
-  pub awake : false ≡ d .arb .«prev_cpu_halted»
+four : (a b c d : Bool) → (a && b && c && d) ≡ true → (a ≡ true) × (b ≡ true) × (c ≡ true) × (d ≡ true)
+four a b c d e =
+    let e3 = both (a && b && c) d e in
+    let e2 = both (a && b) c (e3 .0) in
+    let e1 = both a b (e2 .0) in
+    (e1 .0, e1 .1, e2 .1, e3 .1)
 
 pub at-rest : (d : VramDma) → stillOf d ≡ true → AtRest d
 at-rest d e =
-    let out = still d e in
+    let b = d .block in
+    let a = d .arb in
+    let parts = both (stillBlock b) (stillArb a) e in
+    let block =
+    four (eqb (b .remaining) 0) (not (activeOf (b .«setup_cells»))) (not (activeOf (b .«ready_in»)))
+    (not (b .«arm_ready_probation»)) (parts .0) in
+    let timers =
+    four (not (a .pend) && not (a .«pend_granted») && not (a .«prev_cpu_halted») && not (a .«armed_this_fall»))
+    (not (activeOf (a .«halt_wake_blind»))) (not (activeOf (a .«wake_pend_blind»))) (not (activeOf (a .«wake_tenure»)))
+    (parts .1) in
+    let flags =
+    four (not (a .pend)) (not (a .«pend_granted»)) (not (a .«prev_cpu_halted»)) (not (a .«armed_this_fall»)) (timers .0) in
     record {
-      setup = ap (λ x. x .block .«setup_cells») out;
-      ready = ap (λ x. x .block .«ready_in») out;
-      blind3 = ap (λ x. x .arb .«halt_wake_blind») out;
-      blind6 = ap (λ x. x .arb .«wake_pend_blind») out;
-      tenure = ap (λ x. x .arb .«wake_tenure») out;
-      awake = ap (λ x. x .arb .«prev_cpu_halted») out;
+      block = eqb-true (b .remaining) 0 (block .0);
+      setup = rests (b .«setup_cells») (block .1);
+      ready = rests (b .«ready_in») (block .2);
+      probation = not-true (b .«arm_ready_probation») (block .3);
+      pend = not-true (a .pend) (flags .0);
+      granted = not-true (a .«pend_granted») (flags .1);
+      awake = not-true (a .«prev_cpu_halted») (flags .2);
+      strobe = not-true (a .«armed_this_fall») (flags .3);
+      blind3 = rests (a .«halt_wake_blind») (timers .1);
+      blind6 = rests (a .«wake_pend_blind») (timers .2);
+      tenure = rests (a .«wake_tenure») (timers .3);
     }
 
+pub settles-means : (i : FallInput) (d : VramDma) → settles i d ≡ true → Settles i d
+settles-means i d e =
+    let all = four (eqb (d .cursor .remaining) 0) (stillOf d) (not (i .halted)) (not (i .stopped)) e in
+    record {
+      left = eqb-true (d .cursor .remaining) 0 (all .0);
+      rest = at-rest d (all .1);
+      running = not-true (i .halted) (all .2);
+      going = not-true (i .stopped) (all .3);
+    }
+
+-- a still engine is one with these fields written out
+still : (d : VramDma) → stillOf d ≡ true → restDma (d .cursor .mode) (d .block .taken) (d .block .«from_arm») (d .arb .«idle_claim») d ≡ d
+still d e =
+    let r = at-rest d e in
+    λ k.
+    withDmaBlock
+    (withBlockRemaining (sym (r .block) k)
+    (withBlockSetupCells (sym (r .setup) k)
+    (withBlockReadyIn (sym (r .ready) k) (withBlockArmReadyProbation (sym (r .probation) k) (d .block)))))
+    (withDmaArb
+    (withArbPend (sym (r .pend) k)
+    (withArbPendGranted (sym (r .granted) k)
+    (withArbPrevCpuHalted (sym (r .awake) k)
+    (withArbArmedThisFall (sym (r .strobe) k)
+    (withArbHaltWakeBlind (sym (r .blind3) k)
+    (withArbWakePendBlind (sym (r .blind6) k) (withArbWakeTenure (sym (r .tenure) k) (d .arb))))))))
+    d)
+
 -- ---- the whole fall
-view : (i : FallInput) (double : Bool) (d : VramDma) → i .halted ≡ false → d .arb .«prev_cpu_halted» ≡ false → viewOf i double d ≡ runningView (eqb (i .mode) 0) (d .cursor .mode) double i d
+view :
+    (i : FallInput) (double : Bool) (d : VramDma) → i .halted ≡ false → d .arb .«prev_cpu_halted» ≡ false →
+    viewOf i double d ≡ runningView (eqb (i .mode) 0) (d .cursor .mode) double i d
 unfolding viewOf
 view i double d runs ran =
     λ k.

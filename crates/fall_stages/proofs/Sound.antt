@@ -8,7 +8,9 @@ use Rattle.console.specs.declared.vram_dma.HaltArbiter.{HaltArbiter}
 use Rattle.console.specs.declared.vram_dma.HblankBlock.{HblankBlock}
 use Rattle.console.specs.declared.vram_dma.VramDma.{VramDma}
 use Rattle.transfer.specs.Pair.{movingOf, quotaOf}
-use Rattle.fall_stages.specs.Fall.{settledOf, observedOf, judgedBlock, probationOf, droppedBlock, haltLatchOf, refilledOf, gatedOf, blindsOf, commits, commitBlock, commitOf, tenureOf, pendOf, readiedBlock, readinessOf, seizedBlock, seizureOf, startedOf, servedOf, fallOf}
+use Rattle.fall_stages.specs.Fall.{settledOf, observedOf, judgedBlock, probationOf, droppedBlock, haltLatchOf, refilledOf, gatedOf}
+use Rattle.fall_stages.specs.Fall.{blindsOf, commits, commitBlock, commitOf, tenureOf, pendOf, readiedBlock, readinessOf}
+use Rattle.fall_stages.specs.Fall.{seizedBlock, seizureOf, startedOf, servedOf, fallOf}
 use Rattle.fall_stages.specs.declared.FallInput.{FallInput}
 use Rattle.fall_stages.specs.declared.View.{View}
 use Rattle.fall_stages.proofs.Steps.{Course, settled, gated, overflowed, served, course, fall-steps, v, t}
@@ -47,7 +49,9 @@ module _ (i : FallInput) (double : Bool) (d : VramDma) (k : Sound d) where
   block (settled p e) = rw e (k .block)
   block (gated p g e) = rw e (started-block (v i double d) d (k .block))
   block (overflowed p g o e) = rw e (k .block)
-  block (served p g o e) = rw e (served-block (commits (v i double d) (t i double d)) (v i double d) (t i double d) (started-block (v i double d) d (k .block)))
+  block (served p g o e) =
+      let c = commits (v i double d) (t i double d) in
+      rw e (served-block c (v i double d) (t i double d) (started-block (v i double d) d (k .block)))
 
   quota : (r : Bool) → fallOf i double d .refused ≡ r → fallOf i double d .dma .cursor .quota ≤ 2
   quota false n = rw (fall-steps i double d .quota n) (quota-bound (movingOf (fallOf i double d .dma)) double)

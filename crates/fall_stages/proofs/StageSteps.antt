@@ -6,11 +6,18 @@ use mathlib.Core.Bool.{Bool, true, false, cond, not, _&&_, _||_, and-false, and-
 use lib.Dec.{eqb}
 use borrow.Author.Tests.{lt-ltb, le-ltb, le-leb, lt-leb, eq-eqb, ne-eqb}
 use Rattle.countdown.specs.Countdown.{armed, cleared, activeOf, stepped, saturatingInc}
-use Rattle.console.specs.Set.{withBlockRemaining, withBlockStartEdge, withBlockTaken, withBlockReadyIn, withBlockSetupCells, withBlockFromArm, withBlockArmReadyProbation, withBlockSeizeFalls, withArbPend, withArbPendFromArm, withArbPendAge, withArbPendGranted, withArbArmedThisFall, withArbGrantCounted, withArbGrantedAhead, withArbPrevCpuHalted, withArbHaltWakeBlind, withArbWakePendBlind, withArbWakeTenure, withArbParkWaitsForFetch, withArbIdleClaim, withDmaBlock, withDmaArb}
+use Rattle.console.specs.Set.{withBlockRemaining, withBlockStartEdge, withBlockTaken, withBlockReadyIn, withBlockSetupCells}
+use Rattle.console.specs.Set.{withBlockFromArm, withBlockArmReadyProbation, withBlockSeizeFalls, withArbPend, withArbPendFromArm}
+use Rattle.console.specs.Set.{withArbPendAge, withArbPendGranted, withArbArmedThisFall, withArbGrantCounted, withArbGrantedAhead}
+use Rattle.console.specs.Set.{withArbPrevCpuHalted, withArbHaltWakeBlind, withArbWakePendBlind, withArbWakeTenure}
+use Rattle.console.specs.Set.{withArbParkWaitsForFetch, withArbIdleClaim, withDmaBlock, withDmaArb}
 use Rattle.console.specs.declared.vram_dma.HaltArbiter.{HaltArbiter}
 use Rattle.console.specs.declared.vram_dma.VramDma.{VramDma}
 use Rattle.transfer.specs.Questions.{seizesBus}
-use Rattle.fall_stages.specs.Fall.{observedArb, observedOf, reverts, judgedBlock, ungrantedArb, probationOf, joinsHalt, droppedBlock, haltLatchArb, haltLatchOf, refilledOf, agedArb, pendedArb, haltPends, grants, grantedArb, gatedOf, blindsArb, blindsOf, commitBlock, commitArb, commitOf, consumes, tenureArb, tenureOf, pends, pendArb, pendOf, readiedBlock, readinessOf, seizedBlock, seizureOf}
+use Rattle.fall_stages.specs.Fall.{observedArb, observedOf, reverts, judgedBlock, ungrantedArb, probationOf, joinsHalt}
+use Rattle.fall_stages.specs.Fall.{droppedBlock, haltLatchArb, haltLatchOf, refilledOf, agedArb, pendedArb, haltPends, grants}
+use Rattle.fall_stages.specs.Fall.{grantedArb, gatedOf, blindsArb, blindsOf, commitBlock, commitArb, commitOf, consumes, tenureArb}
+use Rattle.fall_stages.specs.Fall.{tenureOf, pends, pendArb, pendOf, readiedBlock, readinessOf, seizedBlock, seizureOf}
 use Rattle.fall_stages.specs.StageSteps.{StageSteps}
 use Rattle.fall_stages.specs.declared.View.{View}
 

@@ -10,7 +10,11 @@ use Rattle.console.specs.declared.VramDmaClaim.{VramDmaClaim}
 use Rattle.console.specs.declared.vram_dma.HaltArbiter.{HaltArbiter}
 use Rattle.console.specs.declared.vram_dma.HblankBlock.{HblankBlock}
 use Rattle.console.specs.declared.vram_dma.VramDma.{VramDma}
-use Rattle.fall_stages.specs.Fall.{viewOf, gates, settledOf, observedArb, observedOf, judgedBlock, ungrantedArb, probationOf, joinsHalt, droppedBlock, haltLatchArb, haltLatchOf, refilledOf, agedArb, pendedArb, grantedArb, haltPends, gatedOf, blindsArb, blindsOf, commits, precharged, commitBlock, commitArb, commitOf, tenureArb, tenureOf, pendArb, pendOf, readiedBlock, readinessOf, seizedBlock, seizureOf, startedOf, servedOf, fallOf, fell}
+use Rattle.fall_stages.specs.Fall.{viewOf, gates, settledOf, observedArb, observedOf, judgedBlock, ungrantedArb, probationOf}
+use Rattle.fall_stages.specs.Fall.{joinsHalt, droppedBlock, haltLatchArb, haltLatchOf, refilledOf, agedArb, pendedArb, grantedArb}
+use Rattle.fall_stages.specs.Fall.{haltPends, gatedOf, blindsArb, blindsOf, commits, precharged, commitBlock, commitArb, commitOf}
+use Rattle.fall_stages.specs.Fall.{tenureArb, tenureOf, pendArb, pendOf, readiedBlock, readinessOf, seizedBlock, seizureOf}
+use Rattle.fall_stages.specs.Fall.{startedOf, servedOf, fallOf, fell}
 use Rattle.fall_stages.specs.Steps.{settles}
 use Rattle.fall_stages.specs.Windows.{Window, atStep, blindOf3, blindOf6, tenureOf36, latchDrops, readiness, SteppedOnce}
 use Rattle.fall_stages.specs.declared.FallInput.{FallInput}
@@ -197,22 +201,22 @@ module _ (i : FallInput) (double : Bool) (d : VramDma) where
   rest3 p =
       let r = resting i double d p in
       rests (d .arb .«prev_cpu_halted» && not (i .halted)) false 3 (d .arb .«halt_wake_blind»)
-      (left-false (d .arb .«prev_cpu_halted») (not (i .halted)) (sym (r .awake))) (r .blind3)
+      (left-false (d .arb .«prev_cpu_halted») (not (i .halted)) (r .awake)) (sym (r .blind3))
 
   rest6 : settles i d ≡ true → d .arb .«wake_pend_blind» ≡ stepped (atStep blindOf6 i double d)
-  rest6 p = rests false false 6 (d .arb .«wake_pend_blind») refl (resting i double d p .blind6)
+  rest6 p = rests false false 6 (d .arb .«wake_pend_blind») refl (sym (resting i double d p .blind6))
 
   rest36 :
       settles i d ≡ true → fallOf i double d .claim .committed ≡ false →
       d .arb .«wake_tenure» ≡ stepped (atStep tenureOf36 i double d)
-  rest36 p c = rests (tenureOf36 .arms i double d) false 36 (d .arb .«wake_tenure») (rw c) (resting i double d p .tenure)
+  rest36 p c = rests (tenureOf36 .arms i double d) false 36 (d .arb .«wake_tenure») (rw c) (sym (resting i double d p .tenure))
 
   rest2 :
       settles i d ≡ true → fallOf i double d .claim .committed ≡ false →
       d .block .«ready_in» ≡ stepped (atStep readiness i double d)
   rest2 p c =
       rests (readiness .arms i double d) (readiness .clears i double d) 2 (d .block .«ready_in»)
-      (left-false (fallOf i double d .claim .committed) _ c) (resting i double d p .ready)
+      (left-false (fallOf i double d .claim .committed) _ c) (sym (resting i double d p .ready))
 
 along3 : Along blindOf3
 unfolding settledOf viewOf blindsOf blindsArb

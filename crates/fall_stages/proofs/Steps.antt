@@ -13,21 +13,17 @@ use Rattle.console.specs.declared.vram_dma.VramDma.{VramDma}
 use Rattle.transfer.specs.Pair.{movingOf, quotaOf}
 use Rattle.transfer.specs.Questions.{seizesBus}
 use Rattle.transfer.proofs.Steps.{pair-steps}
-use Rattle.fall_stages.specs.Fall.{viewOf, gates, stillOf, inertOf, settledOf, observedArb, observedOf, judgedBlock, ungrantedArb, probationOf, droppedBlock, haltLatchArb, haltLatchOf, refilledOf, agedArb, pendedArb, grantedArb, gatedOf, blindsArb, blindsOf, commits, overflows, commitBlock, commitArb, commitOf, tenureArb, tenureOf, pendArb, pendOf, readiedBlock, readinessOf, seizedBlock, seizureOf, claimOf, startedOf, servedOf, decidedOf, ranOf, fallOf, noClaim, fell, refusedOf}
-use Rattle.fall_stages.specs.Steps.{settles, before6, commitTest, FallSteps}
+use Rattle.fall_stages.specs.Fall.{viewOf, gates, stillOf, inertOf, settledOf, observedArb, observedOf, judgedBlock, ungrantedArb}
+use Rattle.fall_stages.specs.Fall.{probationOf, droppedBlock, haltLatchArb, haltLatchOf, refilledOf, agedArb, pendedArb, grantedArb}
+use Rattle.fall_stages.specs.Fall.{gatedOf, blindsArb, blindsOf, commits, overflows, commitBlock, commitArb, commitOf, tenureArb}
+use Rattle.fall_stages.specs.Fall.{tenureOf, pendArb, pendOf, readiedBlock, readinessOf, seizedBlock, seizureOf, claimOf, startedOf}
+use Rattle.fall_stages.specs.Fall.{servedOf, decidedOf, ranOf, fallOf, noClaim, fell, refusedOf}
+use Rattle.fall_stages.specs.Steps.{settles, AtRest, before6, commitTest, FallSteps}
 use Rattle.fall_stages.specs.declared.FallInput.{FallInput}
 use Rattle.fall_stages.specs.declared.Fallen.{Fallen}
 use Rattle.fall_stages.specs.declared.View.{View}
-use Rattle.fall_stages.proofs.QuietFall.{AtRest, at-rest}
+use Rattle.fall_stages.proofs.QuietFall.{settles-means}
 use Rattle.fall_stages.proofs.StageSteps.{none-of}
-
-first : (a b : Bool) → (a && b) ≡ true → a ≡ true
-first true b e = refl
-first false b e = e
-
-second : (a b : Bool) → (a && b) ≡ true → b ≡ true
-second true b e = e
-second false b e = absurd (false≢true e)
 
 -- ---- what single parts keep, whichever way their choice goes
 commit-falls : (c : Bool) (v : View) (a : HaltArbiter) → commitArb c v a .«halted_falls» ≡ a .«halted_falls»
@@ -75,6 +71,16 @@ started-seize : (v : View) (d : VramDma) → startedOf v d .block .«seize_falls
 unfolding startedOf haltLatchOf probationOf judgedBlock observedOf
 started-seize v d = drop-seize _ _
 
+drop-cell : (j : Bool) (b : HblankBlock) → activeOf (b .«setup_cells») ≡ false → activeOf (droppedBlock j b .«setup_cells») ≡ false
+unfolding droppedBlock
+drop-cell true b h = refl
+drop-cell false b h = h
+
+started-cell :
+    (v : View) (d : VramDma) → activeOf (d .block .«setup_cells») ≡ false → activeOf (startedOf v d .block .«setup_cells») ≡ false
+unfolding startedOf haltLatchOf probationOf judgedBlock observedOf
+started-cell v d h = drop-cell _ _ h
+
 -- ---- step 5
 gated-cursor : (v : View) (d : VramDma) → gatedOf v d .cursor ≡ withCursorQuota (gatedOf v d .cursor .quota) (d .cursor)
 unfolding gatedOf refilledOf
@@ -110,6 +116,11 @@ module _ (c : Bool) (v : View) (d : VramDma) where
       servedOf c v d .block .«seize_falls» ≡ cond (seizesBus (servedOf c v d)) (saturatingInc (d .block .«seize_falls»)) 0
   unfolding servedOf seizureOf seizedBlock refilledOf readinessOf readiedBlock pendOf tenureOf commitOf seizesBus
   served-seize = ap (λ n. cond (seizesBus (servedOf c v d)) (saturatingInc n) 0) (commit-seize c v _ _)
+
+-- without a commit
+served-cell : (v : View) (d : VramDma) → servedOf false v d .block .«setup_cells» ≡ d .block .«setup_cells»
+unfolding servedOf seizureOf seizedBlock refilledOf readinessOf readiedBlock pendOf tenureOf commitOf commitBlock
+served-cell v d = refl
 
 -- ---- the blinds change nothing that the commit looks at
 blinds-commit : (v : View) (d : VramDma) → commits v (blindsOf v d) ≡ commits v d
@@ -253,39 +264,27 @@ module _ (i : FallInput) (double : Bool) (d : VramDma) where
       (served-cursor (commits v t) v t ∙
       ap (withCursorQuota (servedOf (commits v t) v t .cursor .quota)) (blinds-cursor v s ∙ started-cursor v d))
 
-  -- an inert engine has nothing left, and the CPU runs
-  nothing-left : settles i d ≡ true → d .cursor .remaining ≡ 0
-  nothing-left p = eqb-true _ 0 (first _ _ (first (inertOf d) (not (i .halted)) (first (inertOf d && not (i .halted)) (not (i .stopped)) p)))
-
-  runs : settles i d ≡ true → i .halted ≡ false
-  runs p = not-true (i .halted) (second (inertOf d) (not (i .halted)) (first (inertOf d && not (i .halted)) (not (i .stopped)) p))
-
   quota-step :
       Course → fallOf i double d .refused ≡ false →
       fallOf i double d .dma .cursor .quota ≡ quotaOf (movingOf (fallOf i double d .dma)) double
   unfolding viewOf settledOf
-  quota-step (settled p e) n = rw (e, pair-steps .never (settledOf (eqb (i .mode) 0) d) (nothing-left p))
+  quota-step (settled p e) n = rw (e, pair-steps .never (settledOf (eqb (i .mode) 0) d) (settles-means i d p .left))
   quota-step (gated p g e) n = rw e (gated-quota v s)
   quota-step (overflowed p g o e) n = absurd (not-refused n e)
   quota-step (served p g o e) n = rw e (served-quota (commits v t) v t)
 
-  -- it is at rest too: it seizes no bus, and is not gated
+  -- an inert engine is at rest: it seizes no bus, and is not gated
   pub resting : settles i d ≡ true → AtRest d
-  resting p =
-      at-rest d
-      (second (eqb (d .cursor .remaining) 0) (stillOf d)
-      (first (inertOf d) (not (i .halted)) (first (inertOf d && not (i .halted)) (not (i .stopped)) p)))
+  resting p = settles-means i d p .rest
 
   seizes-not : settles i d ≡ true → seizesBus (settledOf (eqb (i .mode) 0) d) ≡ false
   unfolding settledOf seizesBus
   seizes-not p =
-      let none : activeOf (d .block .«setup_cells») ≡ false = ap activeOf (sym (resting p .setup)) in
-      rw (none, le-ltb 0 (d .cursor .remaining) (omega (arith, nothing-left p)), and-false, and-false)
+      let none : activeOf (d .block .«setup_cells») ≡ false = ap activeOf (resting p .setup) in
+      rw (none, le-ltb 0 (d .cursor .remaining) (omega (arith, settles-means i d p .left)), and-false, and-false)
 
   pub ungates : settles i d ≡ true → gates i ≡ false
-  ungates p =
-      let stopped : i .stopped ≡ false = not-true (i .stopped) (second (inertOf d && not (i .halted)) (not (i .stopped)) p) in
-      rw (runs p, stopped)
+  ungates p = let k = settles-means i d p in rw (k .running, k .going)
 
   seize-count :
       Course → fallOf i double d .refused ≡ false → gates i ≡ false →
@@ -310,10 +309,21 @@ module _ (i : FallInput) (double : Bool) (d : VramDma) where
       Course → fallOf i double d .refused ≡ false →
       fallOf i double d .dma .arb .«halted_falls» ≡ cond (i .halted) (saturatingInc (d .arb .«halted_falls»)) 0
   unfolding settledOf viewOf
-  falls-step (settled p e) n = rw (e, runs p)
+  falls-step (settled p e) n = rw (e, settles-means i d p .running)
   falls-step (gated p g e) n = rw e (gated-falls v s ∙ started-falls v d)
   falls-step (overflowed p g o e) n = absurd (not-refused n e)
   falls-step (served p g o e) n = rw e (served-falls (commits v t) v t ∙ blinds-falls v s ∙ started-falls v d)
+
+  no-cell :
+      Course → fallOf i double d .claim .committed ≡ false → activeOf (d .block .«setup_cells») ≡ false →
+      activeOf (fallOf i double d .dma .block .«setup_cells») ≡ false
+  unfolding settledOf gatedOf refilledOf blindsOf
+  no-cell (settled p e) c h = rw e h
+  no-cell (gated p g e) c h = rw e (started-cell v d h)
+  no-cell (overflowed p g o e) c h = rw e h
+  no-cell (served p g o e) c h =
+      let k : commits v t ≡ false = sym (ap (λ (f : Fallen). f .claim .committed) e) ∙ c in
+      rw (e, k, served-cell v t) (started-cell v d h)
 
   -- a fall that committed was served, with a commit
   Commit : Type 0
@@ -369,7 +379,8 @@ module _ (i : FallInput) (double : Bool) (d : VramDma) where
   raises c counted byte =
       let k : Commit = commit course c in
       let counts : t .arb .«grant_counted» ≡ false = blinds-counted v s ∙ counted in
-      let below : t .arb .«granted_ahead» < 255 = under (commits v t) (t .arb .«grant_counted») (t .arb .«granted_ahead») (k .0) (k .1) counts (rw (blinds-granted v s) byte) in
+      let below : t .arb .«granted_ahead» < 255 =
+      under (commits v t) (t .arb .«grant_counted») (t .arb .«granted_ahead») (k .0) (k .1) counts (rw (blinds-granted v s) byte) in
       rw (k .2) (commit-granted v t ∙ rw (counts, lt-ltb _ 255 below) (ap (λ (n : ℕ). n + 1) (blinds-granted v s)))
     where
       under : (a b : Bool) (n : ℕ) → (a && not b && eqb n 255) ≡ false → a ≡ true → b ≡ false → n ≤ 255 → n < 255
@@ -406,6 +417,7 @@ fall-steps i double d =
       halted-falls = falls-step i double d (course i double d);
       committed = λ n c. committed-step i double d c;
       committed-marks = λ n c. committed-marks i double d c;
+      no-cell = no-cell i double d (course i double d);
       counted-already = λ n c. counted-already i double d c;
       raises = λ n c. raises i double d c;
       standing = standing-step i double d (course i double d);

@@ -15,7 +15,8 @@ use Rattle.transfer.specs.declared.pair.NextAnswer.the-variants.{Pair, None}
 use Rattle.transfer.specs.declared.pair.NextByte.{NextByte}
 use Rattle.fall_stages.specs.Fall.{gates, fallOf}
 use Rattle.fall_stages.specs.Steps.{settles, reaches6}
-use Rattle.fall_stages.specs.Windows.{atStep, blindOf3, blindOf6, tenureOf36, readiness, Since, by-call, Nth, Enters, passes, PassedOver, KeepsWindows, Windows}
+use Rattle.fall_stages.specs.Windows.{atStep, blindOf3, blindOf6, tenureOf36, readiness, Since, by-call, then-other, Nth, Enters}
+use Rattle.fall_stages.specs.Windows.{passes, PassedOver, KeepsWindows, Windows}
 use Rattle.fall_stages.specs.declared.FallInput.{FallInput}
 use Rattle.fall_stages.proofs.Once.{spent-none}
 use Rattle.fall_stages.proofs.Steps.{s, t, resting, fall-steps}
@@ -40,9 +41,9 @@ module _ (i : FallInput) (double : Bool) (d : VramDma) where
       outside (eqb (i .mode) 0 && not (d .arb .«prev_view_hblank»)) (activeOf (atStep blindOf3 i double d))
       (activeOf (atStep blindOf6 i double d)) (not (eqb (atStep blindOf6 i double d .0) 6)) (activeOf (atStep tenureOf36 i double d))
       (idle (d .arb .«prev_cpu_halted» && not (i .halted)) 3 (d .arb .«halt_wake_blind»)
-      (left-false (d .arb .«prev_cpu_halted») (not (i .halted)) (sym (r .awake))) (r .blind3))
-      (idle false 6 (d .arb .«wake_pend_blind») refl (r .blind6))
-      (idle (tenureOf36 .arms i double d) 36 (d .arb .«wake_tenure») (rw c) (r .tenure))
+      (left-false (d .arb .«prev_cpu_halted») (not (i .halted)) (r .awake)) (sym (r .blind3)))
+      (idle false 6 (d .arb .«wake_pend_blind») refl (sym (r .blind6)))
+      (idle (tenureOf36 .arms i double d) 36 (d .arb .«wake_tenure») (rw c) (sym (r .tenure)))
 
   reaches : (b : Bool) → settles i d ≡ b → gates i ≡ false → passes i double d ≡ true → reaches6 i d ≡ true
   reaches true p g q = absurd (false≢true (sym (rest-passes p) ∙ q))
@@ -210,6 +211,9 @@ pub windows : Windows
 windows =
     record {
       one-lemma = one-lemma;
+      goes-on =
+          λ d e w k.
+          (λ r. then-other k d e r (w .blind3), λ r. then-other k d e r (w .blind6), λ r. then-other k d e r (w .tenure), λ r. then-other k d e r (w .ready));
       blind3-steps = blind3-steps;
       blind3-lasts = λ k e r. lasts blindOf3 blind3-steps .holds k e r;
       blind3-passes = blind3-passes;
@@ -235,6 +239,8 @@ windows =
       pair = pair;
       drain = drain;
       retired = retired;
+      cell = λ cells d. record { blind3 = refl; blind6 = refl; tenure = refl; ready = refl };
+      arbitration = λ oam d. record { blind3 = refl; blind6 = refl; tenure = refl; ready = refl };
       lcd-off = lcd-off;
       lcd-off-latches = lcd-off-latches;
     }

@@ -6,7 +6,12 @@ use lib.Dec.{ltb, leb, eqb}
 use Rattle.countdown.specs.Countdown.{armed, cleared, activeOf, remainingOf, ticked, expiredOf, saturatingInc}
 use Rattle.countdown.specs.declared.Countdown.{Countdown}
 use Rattle.console.specs.Modes.{isHBlank}
-use Rattle.console.specs.Set.{withCursorQuota, withBlockRemaining, withBlockStartEdge, withBlockTaken, withBlockSetupCells, withBlockReadyIn, withBlockSeizeFalls, withBlockFromArm, withBlockArmReadyProbation, withArbPend, withArbPendFromArm, withArbArmedThisFall, withArbHaltedFalls, withArbPrevViewHblank, withArbPendAge, withArbPendGranted, withArbWakeTenure, withArbParkWaitsForFetch, withArbIdleClaim, withArbHaltWakeBlind, withArbPrevCpuHalted, withArbGrantCounted, withArbWakePendBlind, withArbGrantedAhead, withDmaCursor, withDmaBlock, withDmaArb}
+use Rattle.console.specs.Set.{withCursorQuota, withBlockRemaining, withBlockStartEdge, withBlockTaken, withBlockSetupCells}
+use Rattle.console.specs.Set.{withBlockReadyIn, withBlockSeizeFalls, withBlockFromArm, withBlockArmReadyProbation, withArbPend}
+use Rattle.console.specs.Set.{withArbPendFromArm, withArbArmedThisFall, withArbHaltedFalls, withArbPrevViewHblank, withArbPendAge}
+use Rattle.console.specs.Set.{withArbPendGranted, withArbWakeTenure, withArbParkWaitsForFetch, withArbIdleClaim, withArbHaltWakeBlind}
+use Rattle.console.specs.Set.{withArbPrevCpuHalted, withArbGrantCounted, withArbWakePendBlind, withArbGrantedAhead, withDmaCursor}
+use Rattle.console.specs.Set.{withDmaBlock, withDmaArb}
 use Rattle.console.specs.declared.VramDmaClaim.{VramDmaClaim}
 use Rattle.console.specs.declared.vram_dma.HaltArbiter.{HaltArbiter}
 use Rattle.console.specs.declared.vram_dma.HblankBlock.{HblankBlock}
@@ -18,20 +23,24 @@ use Rattle.fall_stages.specs.declared.Fallen.{Fallen}
 use Rattle.fall_stages.specs.declared.View.{View}
 
 -- ---- step 1: "Inert, not halted, not stopped: `settle_inert`, end"
--- no block, no pend or grant, no countdown runs, no halt to unwind
+-- no block, and none of its countdowns runs
+abbrev pub stillBlock : HblankBlock → Bool
+stillBlock b =
+    eqb (b .remaining) 0 && not (activeOf (b .«setup_cells»)) && not (activeOf (b .«ready_in»)) && not (b .«arm_ready_probation»)
+
+-- no pend, grant or strobe, no halt to unwind, and none of its countdowns runs
+abbrev pub stillArb : HaltArbiter → Bool
+stillArb a =
+    not (a .pend)
+    && not (a .«pend_granted»)
+    && not (a .«prev_cpu_halted»)
+    && not (a .«armed_this_fall»)
+    && not (activeOf (a .«halt_wake_blind»))
+    && not (activeOf (a .«wake_pend_blind»))
+    && not (activeOf (a .«wake_tenure»))
+
 abbrev pub stillOf : VramDma → Bool
-stillOf d =
-    eqb (d .block .remaining) 0
-    && not (activeOf (d .block .«setup_cells»))
-    && not (activeOf (d .block .«ready_in»))
-    && not (d .block .«arm_ready_probation»)
-    && not (d .arb .pend)
-    && not (d .arb .«pend_granted»)
-    && not (d .arb .«prev_cpu_halted»)
-    && not (d .arb .«armed_this_fall»)
-    && not (activeOf (d .arb .«halt_wake_blind»))
-    && not (activeOf (d .arb .«wake_pend_blind»))
-    && not (activeOf (d .arb .«wake_tenure»))
+stillOf d = stillBlock (d .block) && stillArb (d .arb)
 
 abbrev pub inertOf : VramDma → Bool
 inertOf d = eqb (d .cursor .remaining) 0 && stillOf d

@@ -4,11 +4,16 @@ use Prim.Native.Nat.{_-_, _/_, _<_, _≤_}
 use mathlib.Core.Path.{_≡_}
 use mathlib.Core.Bool.{Bool, true, false, cond, not, _&&_, _||_}
 use lib.Dec.{ltb, eqb}
-use Rattle.countdown.specs.Countdown.{armed, cleared, activeOf, stepped, saturatingInc}
-use Rattle.console.specs.Set.{withBlockRemaining, withBlockStartEdge, withBlockTaken, withBlockReadyIn, withBlockSetupCells, withBlockFromArm, withBlockArmReadyProbation, withBlockSeizeFalls, withArbPend, withArbPendFromArm, withArbPendAge, withArbPendGranted, withArbArmedThisFall, withArbGrantCounted, withArbGrantedAhead, withArbPrevCpuHalted, withArbHaltWakeBlind, withArbWakePendBlind, withArbWakeTenure, withArbParkWaitsForFetch, withArbIdleClaim, withDmaBlock, withDmaArb}
+use Rattle.countdown.specs.Countdown.{armed, cleared, activeOf, remainingOf, stepped, saturatingInc}
+use Rattle.console.specs.Set.{withBlockRemaining, withBlockStartEdge, withBlockTaken, withBlockReadyIn, withBlockSetupCells}
+use Rattle.console.specs.Set.{withBlockFromArm, withBlockArmReadyProbation, withBlockSeizeFalls, withArbPend, withArbPendFromArm}
+use Rattle.console.specs.Set.{withArbPendAge, withArbPendGranted, withArbArmedThisFall, withArbGrantCounted, withArbGrantedAhead}
+use Rattle.console.specs.Set.{withArbPrevCpuHalted, withArbHaltWakeBlind, withArbWakePendBlind, withArbWakeTenure}
+use Rattle.console.specs.Set.{withArbParkWaitsForFetch, withArbIdleClaim, withDmaBlock, withDmaArb}
 use Rattle.console.specs.declared.vram_dma.VramDma.{VramDma}
 use Rattle.transfer.specs.Questions.{seizesBus}
-use Rattle.fall_stages.specs.Fall.{observedOf, reverts, probationOf, joinsHalt, haltLatchOf, gatedOf, haltPends, grants, blindsOf, commitOf, tenureOf, pendOf, readinessOf, seizureOf}
+use Rattle.fall_stages.specs.Fall.{observedOf, reverts, probationOf, joinsHalt, haltLatchOf, gatedOf, haltPends, grants, blindsOf}
+use Rattle.fall_stages.specs.Fall.{commitOf, tenureOf, pendOf, readinessOf, seizureOf}
 use Rattle.fall_stages.specs.declared.View.{View}
 
 pub record StageSteps (v : View) (d : VramDma) : Type 0 where
@@ -38,7 +43,7 @@ pub record StageSteps (v : View) (d : VramDma) : Type 0 where
       (probationOf v d .block ≡ withBlockArmReadyProbation false (d .block)) × (probationOf v d .arb ≡ d .arb)
   -- "a block of 16 not yet ready at the halt latch becomes a granted pend"
   pub latches :
-      v .«cpu_halted» ≡ true → v .«was_halted» ≡ false → d .block .remaining ≡ 16 → 0 < d .block .«ready_in» .0 →
+      v .«cpu_halted» ≡ true → v .«was_halted» ≡ false → d .block .remaining ≡ 16 → 0 < remainingOf (d .block .«ready_in») →
       (haltLatchOf v d .arb .pend ≡ true) ×
       (haltLatchOf v d .arb .«pend_granted» ≡ true) ×
       (haltLatchOf v d .arb .«grant_counted» ≡ true) ×
@@ -84,14 +89,15 @@ pub record StageSteps (v : View) (d : VramDma) : Type 0 where
       (withArbGrantCounted (gatedOf v d .arb .«grant_counted»)
       (withArbGrantedAhead (gatedOf v d .arb .«granted_ahead») (d .arb)))))))
   -- 6 blinds: an entry in the blind of 3 takes the HBlank, and one in the blind of 6 from its second tick on
-  pub blind3 : 0 < d .arb .«halt_wake_blind» .0 → v .«entry_edge» ≡ true → blindsOf v d .block .taken ≡ true
+  pub blind3 : 0 < remainingOf (d .arb .«halt_wake_blind») → v .«entry_edge» ≡ true → blindsOf v d .block .taken ≡ true
   pub blind6 :
-      0 < d .arb .«wake_pend_blind» .0 → (d .arb .«wake_pend_blind» .0 ≡ 6 → ⊥) → v .«entry_edge» ≡ true → blindsOf v d .block .taken ≡ true
+      0 < remainingOf (d .arb .«wake_pend_blind») → (remainingOf (d .arb .«wake_pend_blind») ≡ 6 → ⊥) →
+      v .«entry_edge» ≡ true → blindsOf v d .block .taken ≡ true
   pub blinds-no-entry : v .«entry_edge» ≡ false → blindsOf v d .block .taken ≡ d .block .taken
   pub blinds-over :
-      d .arb .«halt_wake_blind» .0 ≡ 0 → d .arb .«wake_pend_blind» .0 ≡ 0 → blindsOf v d .block .taken ≡ d .block .taken
+      remainingOf (d .arb .«halt_wake_blind») ≡ 0 → remainingOf (d .arb .«wake_pend_blind») ≡ 0 → blindsOf v d .block .taken ≡ d .block .taken
   pub blind6-first :
-      d .arb .«halt_wake_blind» .0 ≡ 0 → d .arb .«wake_pend_blind» .0 ≡ 6 → blindsOf v d .block .taken ≡ d .block .taken
+      remainingOf (d .arb .«halt_wake_blind») ≡ 0 → remainingOf (d .arb .«wake_pend_blind») ≡ 6 → blindsOf v d .block .taken ≡ d .block .taken
   -- both step, and nothing else changes
   pub blinds-only :
       blindsOf v d ≡
@@ -131,9 +137,9 @@ pub record StageSteps (v : View) (d : VramDma) : Type 0 where
       (c : Bool) → (c && d .arb .«pend_granted» && not (v .«in_hblank»)) ≡ false →
       commitOf c v d .arb .«wake_tenure» ≡ d .arb .«wake_tenure»
   -- an entry in the tenure takes the HBlank, and claims where bytes are left
-  pub consumes : 0 < d .arb .«wake_tenure» .0 → v .«entry_edge» ≡ true → tenureOf v d .block .taken ≡ true
+  pub consumes : 0 < remainingOf (d .arb .«wake_tenure») → v .«entry_edge» ≡ true → tenureOf v d .block .taken ≡ true
   pub claims :
-      0 < d .arb .«wake_tenure» .0 → v .«entry_edge» ≡ true → 0 < d .cursor .remaining → tenureOf v d .arb .«idle_claim» ≡ true
+      0 < remainingOf (d .arb .«wake_tenure») → v .«entry_edge» ≡ true → 0 < d .cursor .remaining → tenureOf v d .arb .«idle_claim» ≡ true
   pub consumes-not :
       (activeOf (d .arb .«wake_tenure») && v .«entry_edge») ≡ false →
       (tenureOf v d .block .taken ≡ d .block .taken) × (tenureOf v d .arb .«idle_claim» ≡ d .arb .«idle_claim»)
@@ -172,7 +178,7 @@ pub record StageSteps (v : View) (d : VramDma) : Type 0 where
   pub probation :
       (double : Bool) →
       readinessOf double d .block .«arm_ready_probation» ≡
-      (d .block .«arm_ready_probation» || (eqb (d .block .«ready_in» .0) 1 && d .block .«from_arm» && eqb (d .block .remaining) 16 && not double))
+      (d .block .«arm_ready_probation» || (eqb (remainingOf (d .block .«ready_in»)) 1 && d .block .«from_arm» && eqb (d .block .remaining) 16 && not double))
   -- "seize count": falls that the bus is seized without a break, up to 255; nothing else changes
   pub seizes : seizesBus d ≡ true → seizureOf d ≡ withDmaBlock (withBlockSeizeFalls (saturatingInc (d .block .«seize_falls»)) (d .block)) d
   pub seizes-not : seizesBus d ≡ false → seizureOf d ≡ withDmaBlock (withBlockSeizeFalls 0 (d .block)) d

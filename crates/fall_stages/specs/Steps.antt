@@ -3,7 +3,7 @@ use Prim.Native.Nat.{_+_, _≤_}
 use mathlib.Core.Path.{_≡_}
 use mathlib.Core.Bool.{Bool, true, false, cond, not, _&&_, _||_}
 use lib.Dec.{leb, eqb}
-use Rattle.countdown.specs.Countdown.{armed, saturatingInc}
+use Rattle.countdown.specs.Countdown.{armed, cleared, activeOf, saturatingInc}
 use Rattle.console.specs.Set.{withCursorQuota}
 use Rattle.console.specs.declared.vram_dma.VramDma.{VramDma}
 use Rattle.transfer.specs.Pair.{movingOf, quotaOf}
@@ -14,6 +14,27 @@ use Rattle.fall_stages.specs.declared.FallInput.{FallInput}
 -- step 1 ends the fall
 abbrev pub settles : FallInput → VramDma → Bool
 settles i d = inertOf d && not (i .halted) && not (i .stopped)
+
+-- its test, taken apart: a still engine ..
+pub record AtRest (d : VramDma) : Type 0 where
+  pub block : d .block .remaining ≡ 0
+  pub setup : d .block .«setup_cells» ≡ cleared
+  pub ready : d .block .«ready_in» ≡ cleared
+  pub probation : d .block .«arm_ready_probation» ≡ false
+  pub pend : d .arb .pend ≡ false
+  pub granted : d .arb .«pend_granted» ≡ false
+  pub awake : d .arb .«prev_cpu_halted» ≡ false
+  pub strobe : d .arb .«armed_this_fall» ≡ false
+  pub blind3 : d .arb .«halt_wake_blind» ≡ cleared
+  pub blind6 : d .arb .«wake_pend_blind» ≡ cleared
+  pub tenure : d .arb .«wake_tenure» ≡ cleared
+
+-- .. with nothing left, and a CPU that neither halts nor stops
+pub record Settles (i : FallInput) (d : VramDma) : Type 0 where
+  pub left : d .cursor .remaining ≡ 0
+  pub rest : AtRest d
+  pub running : i .halted ≡ false
+  pub going : i .stopped ≡ false
 
 -- step 6 is reached
 abbrev pub reaches6 : FallInput → VramDma → Bool
@@ -76,6 +97,10 @@ pub record FallSteps (i : FallInput) (double : Bool) (d : VramDma) : Type 0 wher
       (not (before6 i double d .arb .«pend_from_arm») && not (i .halted) && not (d .arb .«prev_cpu_halted»))) ×
       (fallOf i double d .dma .arb .«pend_granted» ≡ false) ×
       (fallOf i double d .dma .arb .«grant_counted» ≡ false)
+  -- without a commit no set-up cell is set
+  pub no-cell :
+      fallOf i double d .claim .committed ≡ false → activeOf (d .block .«setup_cells») ≡ false →
+      activeOf (fallOf i double d .dma .block .«setup_cells») ≡ false
   pub counted-already :
       fallOf i double d .refused ≡ false → fallOf i double d .claim .committed ≡ true →
       before6 i double d .arb .«grant_counted» ≡ true →

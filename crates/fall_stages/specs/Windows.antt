@@ -5,9 +5,11 @@ use Prim.Native.Nat.{ℕ, suc, _-_, _<_, _≤_}
 use mathlib.Core.Path.{_≡_}
 use mathlib.Core.Bool.{Bool, true, false, cond, not, _&&_, _||_}
 use lib.Dec.{ltb, eqb}
-use Rattle.countdown.specs.Countdown.{armed, cleared, activeOf, stepped}
+use Rattle.countdown.specs.Countdown.{armed, cleared, activeOf, remainingOf, stepped}
 use Rattle.countdown.specs.declared.Countdown.{Countdown}
 use Rattle.console.specs.Modes.{isGeneral, isHBlank}
+use Rattle.console.specs.Set.{withBlockSetupCells, withDmaBlock, withDmaOam}
+use Rattle.console.specs.declared.vram_dma.OamContention.{OamContention}
 use Rattle.console.specs.declared.vram_dma.VramDma.{VramDma}
 use Rattle.transfer.specs.Latch.{latchesDark, lcdDisabledOf, retiredOf}
 use Rattle.transfer.specs.Pair.{movingOf, nextByteOf, drainOf}
@@ -109,17 +111,17 @@ pub data Nth (w : Window) : ℕ → FallInput → Bool → VramDma → Type 0 wh
 
 pub record Lasts (w : Window) : Type 0 where
   -- after k ungated falls it holds what is left of its ticks
-  pub holds : (k : ℕ) (e : VramDma) → Since w k e → w .countdown e .0 ≡ w .ticks - k
+  pub holds : (k : ℕ) (e : VramDma) → Since w k e → remainingOf (w .countdown e) ≡ w .ticks - k
   -- so does it for the fall with k of them in front of it, which finds it active exactly for k < ticks
   pub finds :
-      (k : ℕ) (i : FallInput) (double : Bool) (d : VramDma) → Nth w k i double d → atStep w i double d .0 ≡ w .ticks - k
+      (k : ℕ) (i : FallInput) (double : Bool) (d : VramDma) → Nth w k i double d → remainingOf (atStep w i double d) ≡ w .ticks - k
   pub active :
       (k : ℕ) (i : FallInput) (double : Bool) (d : VramDma) → Nth w k i double d →
       activeOf (atStep w i double d) ≡ ltb k (w .ticks)
   -- and drains it, if it is ungated, exactly where it is the last of the ticks
   pub drains :
       (k : ℕ) (i : FallInput) (double : Bool) (d : VramDma) → Nth w k i double d →
-      eqb (atStep w i double d .0) 1 ≡ eqb (suc k) (w .ticks)
+      eqb (remainingOf (atStep w i double d)) 1 ≡ eqb (suc k) (w .ticks)
 
 -- for every countdown, every length and both speeds, from the law of every countdown (`Counts`)
 abbrev pub OneLemma : Type 0
@@ -139,7 +141,7 @@ passes i double d =
     eqb (i .mode) 0
     && not (d .arb .«prev_view_hblank»)
     && (activeOf (atStep blindOf3 i double d)
-    || (activeOf (atStep blindOf6 i double d) && not (eqb (atStep blindOf6 i double d .0) 6))
+    || (activeOf (atStep blindOf6 i double d) && not (eqb (remainingOf (atStep blindOf6 i double d)) 6))
     || activeOf (atStep tenureOf36 i double d))
 
 -- passed over: the HBlank counts as taken, no pend stands, and no running fall in the rest of the mode-0 period commits
@@ -181,18 +183,25 @@ pub record KeepsWindows (d e : VramDma) : Type 0 where
   pub tenure : e .arb .«wake_tenure» ≡ d .arb .«wake_tenure»
   pub ready : e .block .«ready_in» ≡ d .block .«ready_in»
 
+-- what keeps all four comes between two falls of any window
+abbrev pub GoesOn : Type 0
+GoesOn = (d e : VramDma) → KeepsWindows d e → (k : ℕ) →
+    (Since blindOf3 k d → Since blindOf3 k e) × (Since blindOf6 k d → Since blindOf6 k e) ×
+    (Since tenureOf36 k d → Since tenureOf36 k e) × (Since readiness k d → Since readiness k e)
+
 -- ---- the four, by document 01's numbers
 pub record Windows : Type 0 where
   pub one-lemma : OneLemma
+  pub goes-on : GoesOn
   -- "A wake arms the blind of 3": the waking fall is the first of the three
   pub blind3-steps : SteppedOnce blindOf3
-  pub blind3-lasts : (k : ℕ) (e : VramDma) → Since blindOf3 k e → e .arb .«halt_wake_blind» .0 ≡ 3 - k
+  pub blind3-lasts : (k : ℕ) (e : VramDma) → Since blindOf3 k e → remainingOf (e .arb .«halt_wake_blind») ≡ 3 - k
   pub blind3-passes :
       (k : ℕ) (i : FallInput) (double : Bool) (d : VramDma) → Nth blindOf3 k i double d → k < 3 → Enters i double d →
       PassedOver (fallOf i double d .dma)
   -- the blind of 6: the first ungated fall after the switch is exempt, the five after it are blind
   pub blind6-steps : SteppedOnce blindOf6
-  pub blind6-lasts : (k : ℕ) (e : VramDma) → Since blindOf6 k e → e .arb .«wake_pend_blind» .0 ≡ 6 - k
+  pub blind6-lasts : (k : ℕ) (e : VramDma) → Since blindOf6 k e → remainingOf (e .arb .«wake_pend_blind») ≡ 6 - k
   pub blind6-first :
       (i : FallInput) (double : Bool) (d : VramDma) → Nth blindOf6 0 i double d → activeOf (atStep blindOf3 i double d) ≡ false →
       activeOf (atStep tenureOf36 i double d) ≡ false → passes i double d ≡ false
@@ -202,7 +211,7 @@ pub record Windows : Type 0 where
   -- "tenure of 36": the committing fall is the first of them, and lies outside mode 0. An entry in it leaves no pend, and claims
   -- where bytes are left.
   pub tenure-steps : SteppedOnce tenureOf36
-  pub tenure-lasts : (k : ℕ) (e : VramDma) → Since tenureOf36 k e → e .arb .«wake_tenure» .0 ≡ 36 - k
+  pub tenure-lasts : (k : ℕ) (e : VramDma) → Since tenureOf36 k e → remainingOf (e .arb .«wake_tenure») ≡ 36 - k
   pub tenure-passes :
       (k : ℕ) (i : FallInput) (double : Bool) (d : VramDma) → Nth tenureOf36 k i double d → k < 36 → Enters i double d →
       PassedOver (fallOf i double d .dma)
@@ -212,19 +221,22 @@ pub record Windows : Type 0 where
   -- readiness: a block is ready at the second fall, the committing one counted, and moves from there on where bytes are left;
   -- not before, whatever the speed, but under a General transfer
   pub ready-steps : SteppedOnce readiness
-  pub ready-lasts : (k : ℕ) (e : VramDma) → Since readiness k e → e .block .«ready_in» .0 ≡ 2 - k
+  pub ready-lasts : (k : ℕ) (e : VramDma) → Since readiness k e → remainingOf (e .block .«ready_in») ≡ 2 - k
   pub ready-waits : (k : ℕ) (e : VramDma) → Since readiness k e → k < 2 → isGeneral (e .cursor .mode) ≡ false → movingOf e ≡ false
   pub ready-moves :
       (k : ℕ) (e : VramDma) → Since readiness k e → 2 ≤ k → 0 < e .block .remaining → 0 < e .cursor .remaining → movingOf e ≡ true
   -- whatever came before: an entry in a window is passed over, so one in the tenure leaves no pend
   pub passed : (i : FallInput) (double : Bool) (d : VramDma) → Enters i double d → passes i double d ≡ true → PassedOver (fallOf i double d .dma)
   pub in-tenure :
-      (i : FallInput) (double : Bool) (d : VramDma) → Enters i double d → 0 < d .arb .«wake_tenure» .0 → PassedOver (fallOf i double d .dma)
+      (i : FallInput) (double : Bool) (d : VramDma) → Enters i double d → 0 < remainingOf (d .arb .«wake_tenure») → PassedOver (fallOf i double d .dma)
   -- and outside the windows none is passed over: what decides on taken and on the pend, exactly
   pub entries : (i : FallInput) (double : Bool) (d : VramDma) → Entries i double d
-  -- pairs, escape drains and retired instructions leave all four; so does LCD off, but where it latches a block: ready in 2
+  -- pairs, escape drains, retired instructions, a bus call's set-up cell and an arbitration leave all four; so does LCD off, but
+  -- where it latches a block: ready in 2
   pub pair : (d : VramDma) → KeepsWindows d (nextByteOf d .dma)
   pub drain : (d : VramDma) → KeepsWindows d (drainOf d .dma)
   pub retired : (d : VramDma) → KeepsWindows d (retiredOf d)
+  pub cell : (cells : Countdown) (d : VramDma) → KeepsWindows d (withDmaBlock (withBlockSetupCells cells (d .block)) d)
+  pub arbitration : (oam : OamContention) (d : VramDma) → KeepsWindows d (withDmaOam oam d)
   pub lcd-off : (d : VramDma) → latchesDark d ≡ false → KeepsWindows d (lcdDisabledOf d)
   pub lcd-off-latches : (d : VramDma) → latchesDark d ≡ true → Since readiness 0 (lcdDisabledOf d)
