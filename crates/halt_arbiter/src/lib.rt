@@ -1,7 +1,9 @@
 // The arbiter's part of each stage.
 ghost use mathlib.Core.Path.{_≡_};
 ghost use mathlib.Core.Bool.{_&&_};
-ghost use Rattle.fall_stages.specs.Fall.{settledArb, haltedFallsOf, wakeBlindOf, observedArb, ungrantedArb, haltLatchArb, agedArb, pendedArb, grants, grantedArb, blinded, blindsArb, drives, tenureIf, commitArb, consumes, tenureArb, pendArb};
+ghost use Rattle.fall_stages.specs.Fall.{stillArb, settledArb, haltedFallsOf, wakeBlindOf, observedArb, ungrantedArb, haltLatchArb};
+ghost use Rattle.fall_stages.specs.Fall.{agedArb, pendedArb, grants, grantedArb, blinded, blindsArb, drives, tenureIf, commitArb};
+ghost use Rattle.fall_stages.specs.Fall.{consumes, tenureArb, pendArb};
 use console::vram_dma::HaltArbiter;
 use countdown::Countdown;
 use countdown::step::less_one_if;
@@ -17,26 +19,23 @@ pub struct ArbTicked {
     pub passed_over: bool,
 }
 
+pub fn still(a: HaltArbiter) -> bool
+    ensures { λ r. ⌜ r ≡ stillArb a ⌝ }
+{
+    !a.pend
+        & !a.pend_granted
+        & !a.prev_cpu_halted
+        & !a.armed_this_fall
+        & !a.halt_wake_blind.active()
+        & !a.wake_pend_blind.active()
+        & !a.wake_tenure.active()
+}
+
 pub fn settle(a: HaltArbiter, in_hblank: bool) -> HaltArbiter
     ensures { λ r. ⌜ r ≡ settledArb «in_hblank» a ⌝ }
 {
-    HaltArbiter {
-        pend: a.pend,
-        pend_from_arm: a.pend_from_arm,
-        armed_this_fall: a.armed_this_fall,
-        halted_falls: 0,
-        prev_view_hblank: in_hblank,
-        pend_age: a.pend_age,
-        pend_granted: a.pend_granted,
-        wake_tenure: Countdown(a.wake_tenure.0),
-        park_waits_for_fetch: a.park_waits_for_fetch,
-        idle_claim: a.idle_claim,
-        halt_wake_blind: Countdown(a.halt_wake_blind.0),
-        prev_cpu_halted: a.prev_cpu_halted,
-        grant_counted: a.grant_counted,
-        wake_pend_blind: Countdown(a.wake_pend_blind.0),
-        granted_ahead: a.granted_ahead,
-    }
+    let running = rebuild::with_arb_halted_falls(a, 0);
+    rebuild::with_arb_prev_view_hblank(running, in_hblank)
 }
 
 fn halted_falls(halted: bool, n: u8) -> u8
@@ -57,23 +56,9 @@ pub fn observe(a: HaltArbiter, v: View) -> HaltArbiter
 {
     let falls = halted_falls(v.cpu_halted, a.halted_falls);
     let blind = wake_blind(v.was_halted & !v.cpu_halted, a.halt_wake_blind);
-    HaltArbiter {
-        pend: a.pend,
-        pend_from_arm: a.pend_from_arm,
-        armed_this_fall: a.armed_this_fall,
-        halted_falls: falls,
-        prev_view_hblank: v.in_hblank,
-        pend_age: a.pend_age,
-        pend_granted: a.pend_granted,
-        wake_tenure: Countdown(a.wake_tenure.0),
-        park_waits_for_fetch: a.park_waits_for_fetch,
-        idle_claim: a.idle_claim,
-        halt_wake_blind: blind,
-        prev_cpu_halted: a.prev_cpu_halted,
-        grant_counted: a.grant_counted,
-        wake_pend_blind: Countdown(a.wake_pend_blind.0),
-        granted_ahead: a.granted_ahead,
-    }
+    let woken = rebuild::with_arb_halt_wake_blind(a, blind);
+    let counted = rebuild::with_arb_halted_falls(woken, falls);
+    rebuild::with_arb_prev_view_hblank(counted, v.in_hblank)
 }
 
 // A reverted launch is not granted after all.
@@ -81,64 +66,20 @@ pub fn ungrant(a: HaltArbiter, back: bool) -> HaltArbiter
     ensures { λ r. ⌜ r ≡ ungrantedArb back a ⌝ }
 {
     let granted = less_one_if(back, a.granted_ahead);
-    HaltArbiter {
-        pend: a.pend,
-        pend_from_arm: a.pend_from_arm,
-        armed_this_fall: a.armed_this_fall,
-        halted_falls: a.halted_falls,
-        prev_view_hblank: a.prev_view_hblank,
-        pend_age: a.pend_age,
-        pend_granted: a.pend_granted,
-        wake_tenure: Countdown(a.wake_tenure.0),
-        park_waits_for_fetch: a.park_waits_for_fetch,
-        idle_claim: a.idle_claim,
-        halt_wake_blind: Countdown(a.halt_wake_blind.0),
-        prev_cpu_halted: a.prev_cpu_halted,
-        grant_counted: a.grant_counted,
-        wake_pend_blind: Countdown(a.wake_pend_blind.0),
-        granted_ahead: granted,
-    }
+    rebuild::with_arb_granted_ahead(a, granted)
 }
 
 pub fn join_halt(a: HaltArbiter, halted: bool, joins: bool) -> HaltArbiter
     ensures { λ r. ⌜ r ≡ haltLatchArb halted joins a ⌝ }
 {
     if joins {
-        return HaltArbiter {
-            pend: true,
-            pend_from_arm: a.pend_from_arm,
-            armed_this_fall: a.armed_this_fall,
-            halted_falls: a.halted_falls,
-            prev_view_hblank: a.prev_view_hblank,
-            pend_age: 0,
-            pend_granted: true,
-            wake_tenure: Countdown(a.wake_tenure.0),
-            park_waits_for_fetch: a.park_waits_for_fetch,
-            idle_claim: a.idle_claim,
-            halt_wake_blind: Countdown(a.halt_wake_blind.0),
-            prev_cpu_halted: halted,
-            grant_counted: true,
-            wake_pend_blind: Countdown(a.wake_pend_blind.0),
-            granted_ahead: a.granted_ahead,
-        };
+        let noted = rebuild::with_arb_prev_cpu_halted(a, halted);
+        let young = rebuild::with_arb_pend_age(noted, 0);
+        let counted = rebuild::with_arb_grant_counted(young, true);
+        let granted = rebuild::with_arb_pend_granted(counted, true);
+        return rebuild::with_arb_pend(granted, true);
     }
-    HaltArbiter {
-        pend: a.pend,
-        pend_from_arm: a.pend_from_arm,
-        armed_this_fall: a.armed_this_fall,
-        halted_falls: a.halted_falls,
-        prev_view_hblank: a.prev_view_hblank,
-        pend_age: a.pend_age,
-        pend_granted: a.pend_granted,
-        wake_tenure: Countdown(a.wake_tenure.0),
-        park_waits_for_fetch: a.park_waits_for_fetch,
-        idle_claim: a.idle_claim,
-        halt_wake_blind: Countdown(a.halt_wake_blind.0),
-        prev_cpu_halted: halted,
-        grant_counted: a.grant_counted,
-        wake_pend_blind: Countdown(a.wake_pend_blind.0),
-        granted_ahead: a.granted_ahead,
-    }
+    rebuild::with_arb_prev_cpu_halted(a, halted)
 }
 
 // A standing pend ages in the halt.
@@ -146,46 +87,16 @@ fn age(a: HaltArbiter) -> HaltArbiter
     ensures { λ r. ⌜ r ≡ agedArb a ⌝ }
 {
     let age = saturating_inc_if(a.pend, a.pend_age);
-    HaltArbiter {
-        pend: a.pend,
-        pend_from_arm: a.pend_from_arm,
-        armed_this_fall: a.armed_this_fall,
-        halted_falls: a.halted_falls,
-        prev_view_hblank: a.prev_view_hblank,
-        pend_age: age,
-        pend_granted: a.pend_granted,
-        wake_tenure: Countdown(a.wake_tenure.0),
-        park_waits_for_fetch: a.park_waits_for_fetch,
-        idle_claim: a.idle_claim,
-        halt_wake_blind: Countdown(a.halt_wake_blind.0),
-        prev_cpu_halted: a.prev_cpu_halted,
-        grant_counted: a.grant_counted,
-        wake_pend_blind: Countdown(a.wake_pend_blind.0),
-        granted_ahead: a.granted_ahead,
-    }
+    rebuild::with_arb_pend_age(a, age)
 }
 
 fn pend_if(a: HaltArbiter, pends: bool) -> HaltArbiter
     ensures { λ r. ⌜ r ≡ pendedArb pends a ⌝ }
 {
     if pends {
-        return HaltArbiter {
-            pend: true,
-            pend_from_arm: false,
-            armed_this_fall: a.armed_this_fall,
-            halted_falls: a.halted_falls,
-            prev_view_hblank: a.prev_view_hblank,
-            pend_age: 0,
-            pend_granted: a.pend_granted,
-            wake_tenure: Countdown(a.wake_tenure.0),
-            park_waits_for_fetch: a.park_waits_for_fetch,
-            idle_claim: a.idle_claim,
-            halt_wake_blind: Countdown(a.halt_wake_blind.0),
-            prev_cpu_halted: a.prev_cpu_halted,
-            grant_counted: a.grant_counted,
-            wake_pend_blind: Countdown(a.wake_pend_blind.0),
-            granted_ahead: a.granted_ahead,
-        };
+        let young = rebuild::with_arb_pend_age(a, 0);
+        let shown = rebuild::with_arb_pend_from_arm(young, false);
+        return rebuild::with_arb_pend(shown, true);
     }
     a
 }
@@ -201,23 +112,9 @@ fn grant_if(a: HaltArbiter, grants: bool) -> HaltArbiter
     ensures { λ r. ⌜ r ≡ grantedArb grants a ⌝ }
 {
     let granted = saturating_inc_if(grants, a.granted_ahead);
-    HaltArbiter {
-        pend: a.pend,
-        pend_from_arm: a.pend_from_arm,
-        armed_this_fall: a.armed_this_fall,
-        halted_falls: a.halted_falls,
-        prev_view_hblank: a.prev_view_hblank,
-        pend_age: a.pend_age,
-        pend_granted: a.pend_granted | grants,
-        wake_tenure: Countdown(a.wake_tenure.0),
-        park_waits_for_fetch: a.park_waits_for_fetch,
-        idle_claim: a.idle_claim,
-        halt_wake_blind: Countdown(a.halt_wake_blind.0),
-        prev_cpu_halted: a.prev_cpu_halted,
-        grant_counted: a.grant_counted | grants,
-        wake_pend_blind: Countdown(a.wake_pend_blind.0),
-        granted_ahead: granted,
-    }
+    let pend = rebuild::with_arb_pend_granted(a, a.pend_granted | grants);
+    let counted = rebuild::with_arb_grant_counted(pend, a.grant_counted | grants);
+    rebuild::with_arb_granted_ahead(counted, granted)
 }
 
 // Gated: age, pend at an entry, grant at an entry.
@@ -235,24 +132,10 @@ pub fn step_blinds(a: HaltArbiter, v: View) -> ArbTicked
     let halt = a.halt_wake_blind.tick();
     let first = a.wake_pend_blind.remaining() == 6;
     let wake = a.wake_pend_blind.tick();
+    let one = rebuild::with_arb_wake_pend_blind(a, wake.next);
+    let both = rebuild::with_arb_halt_wake_blind(one, halt.next);
     ArbTicked {
-        arb: HaltArbiter {
-            pend: a.pend,
-            pend_from_arm: a.pend_from_arm,
-            armed_this_fall: a.armed_this_fall,
-            halted_falls: a.halted_falls,
-            prev_view_hblank: a.prev_view_hblank,
-            pend_age: a.pend_age,
-            pend_granted: a.pend_granted,
-            wake_tenure: Countdown(a.wake_tenure.0),
-            park_waits_for_fetch: a.park_waits_for_fetch,
-            idle_claim: a.idle_claim,
-            halt_wake_blind: Countdown(halt.next.0),
-            prev_cpu_halted: a.prev_cpu_halted,
-            grant_counted: a.grant_counted,
-            wake_pend_blind: Countdown(wake.next.0),
-            granted_ahead: a.granted_ahead,
-        },
+        arb: both,
         passed_over: (halt.flag & v.entry_edge) | (wake.flag & v.entry_edge & !first),
     }
 }
@@ -278,42 +161,14 @@ pub fn commit(a: HaltArbiter, v: View, committing: bool) -> HaltArbiter
         let driven = drives(a, v);
         let tenure = tenure_if(driven, a.wake_tenure);
         let park = !(a.pend_from_arm | (v.cpu_halted | v.was_halted));
-        return HaltArbiter {
-            pend: a.pend,
-            pend_from_arm: a.pend_from_arm,
-            armed_this_fall: a.armed_this_fall,
-            halted_falls: a.halted_falls,
-            prev_view_hblank: a.prev_view_hblank,
-            pend_age: a.pend_age,
-            pend_granted: false,
-            wake_tenure: tenure,
-            park_waits_for_fetch: park,
-            idle_claim: false,
-            halt_wake_blind: Countdown(a.halt_wake_blind.0),
-            prev_cpu_halted: a.prev_cpu_halted,
-            grant_counted: false,
-            wake_pend_blind: Countdown(a.wake_pend_blind.0),
-            granted_ahead: granted,
-        };
+        let served = rebuild::with_arb_pend_granted(a, false);
+        let held = rebuild::with_arb_wake_tenure(served, tenure);
+        let uncounted = rebuild::with_arb_grant_counted(held, false);
+        let ahead = rebuild::with_arb_granted_ahead(uncounted, granted);
+        let parked = rebuild::with_arb_park_waits_for_fetch(ahead, park);
+        return rebuild::with_arb_idle_claim(parked, false);
     }
-    let granted = a.pend_granted & v.cpu_halted;
-    HaltArbiter {
-        pend: a.pend,
-        pend_from_arm: a.pend_from_arm,
-        armed_this_fall: a.armed_this_fall,
-        halted_falls: a.halted_falls,
-        prev_view_hblank: a.prev_view_hblank,
-        pend_age: a.pend_age,
-        pend_granted: granted,
-        wake_tenure: Countdown(a.wake_tenure.0),
-        park_waits_for_fetch: a.park_waits_for_fetch,
-        idle_claim: a.idle_claim,
-        halt_wake_blind: Countdown(a.halt_wake_blind.0),
-        prev_cpu_halted: a.prev_cpu_halted,
-        grant_counted: a.grant_counted,
-        wake_pend_blind: Countdown(a.wake_pend_blind.0),
-        granted_ahead: a.granted_ahead,
-    }
+    rebuild::with_arb_pend_granted(a, a.pend_granted & v.cpu_halted)
 }
 
 // The tenure ticks; an entry that it passes over claims where bytes are left.
@@ -322,24 +177,10 @@ pub fn step_tenure(a: HaltArbiter, v: View, bytes_left: bool) -> ArbTicked
 {
     let tenure = a.wake_tenure.tick();
     let consumes = tenure.flag & v.entry_edge;
+    let claimed = rebuild::with_arb_idle_claim(a, a.idle_claim | (consumes & bytes_left));
+    let ticked = rebuild::with_arb_wake_tenure(claimed, tenure.next);
     ArbTicked {
-        arb: HaltArbiter {
-            pend: a.pend,
-            pend_from_arm: a.pend_from_arm,
-            armed_this_fall: a.armed_this_fall,
-            halted_falls: a.halted_falls,
-            prev_view_hblank: a.prev_view_hblank,
-            pend_age: a.pend_age,
-            pend_granted: a.pend_granted,
-            wake_tenure: Countdown(tenure.next.0),
-            park_waits_for_fetch: a.park_waits_for_fetch,
-            idle_claim: a.idle_claim | (consumes & bytes_left),
-            halt_wake_blind: Countdown(a.halt_wake_blind.0),
-            prev_cpu_halted: a.prev_cpu_halted,
-            grant_counted: a.grant_counted,
-            wake_pend_blind: Countdown(a.wake_pend_blind.0),
-            granted_ahead: a.granted_ahead,
-        },
+        arb: ticked,
         passed_over: consumes,
     }
 }
@@ -348,39 +189,11 @@ pub fn renew_pend(a: HaltArbiter, pends: bool) -> HaltArbiter
     ensures { λ r. ⌜ r ≡ pendArb pends a ⌝ }
 {
     if pends {
-        return HaltArbiter {
-            pend: true,
-            pend_from_arm: a.armed_this_fall,
-            armed_this_fall: false,
-            halted_falls: a.halted_falls,
-            prev_view_hblank: a.prev_view_hblank,
-            pend_age: 0,
-            pend_granted: a.pend_granted,
-            wake_tenure: Countdown(a.wake_tenure.0),
-            park_waits_for_fetch: a.park_waits_for_fetch,
-            idle_claim: a.idle_claim,
-            halt_wake_blind: Countdown(a.halt_wake_blind.0),
-            prev_cpu_halted: a.prev_cpu_halted,
-            grant_counted: a.grant_counted,
-            wake_pend_blind: Countdown(a.wake_pend_blind.0),
-            granted_ahead: a.granted_ahead,
-        };
+        let used = rebuild::with_arb_armed_this_fall(a, false);
+        let young = rebuild::with_arb_pend_age(used, 0);
+        let sourced = rebuild::with_arb_pend_from_arm(young, a.armed_this_fall);
+        return rebuild::with_arb_pend(sourced, true);
     }
-    HaltArbiter {
-        pend: false,
-        pend_from_arm: a.pend_from_arm,
-        armed_this_fall: false,
-        halted_falls: a.halted_falls,
-        prev_view_hblank: a.prev_view_hblank,
-        pend_age: a.pend_age,
-        pend_granted: a.pend_granted,
-        wake_tenure: Countdown(a.wake_tenure.0),
-        park_waits_for_fetch: a.park_waits_for_fetch,
-        idle_claim: a.idle_claim,
-        halt_wake_blind: Countdown(a.halt_wake_blind.0),
-        prev_cpu_halted: a.prev_cpu_halted,
-        grant_counted: a.grant_counted,
-        wake_pend_blind: Countdown(a.wake_pend_blind.0),
-        granted_ahead: a.granted_ahead,
-    }
+    let used = rebuild::with_arb_armed_this_fall(a, false);
+    rebuild::with_arb_pend(used, false)
 }

@@ -1,6 +1,7 @@
 // The block's part of each stage.
 ghost use mathlib.Core.Path.{_≡_};
-ghost use Rattle.fall_stages.specs.Fall.{settledBlock, takenClears, keptTaken, reverts, judgedBlock, joinsHalt, droppedBlock, takenIf, precharged, armedUnless, commitBlock, readiedBlock, seizureCount, seizedBlock};
+ghost use Rattle.fall_stages.specs.Fall.{stillBlock, settledBlock, takenClears, keptTaken, reverts, judgedBlock, joinsHalt, droppedBlock};
+ghost use Rattle.fall_stages.specs.Fall.{takenIf, precharged, armedUnless, commitBlock, readiedBlock, seizureCount, seizedBlock};
 use console::vram_dma::HaltArbiter;
 use console::vram_dma::HblankBlock;
 use countdown::Countdown;
@@ -8,19 +9,17 @@ use countdown::pick::pick8;
 use countdown::step::saturating_inc;
 use fall_stages::View;
 
+pub fn still(b: HblankBlock) -> bool
+    ensures { λ r. ⌜ r ≡ stillBlock b ⌝ }
+{
+    (b.remaining == 0) & !b.setup_cells.active() & !b.ready_in.active() & !b.arm_ready_probation
+}
+
 pub fn settle(b: HblankBlock, in_hblank: bool) -> HblankBlock
     ensures { λ r. ⌜ r ≡ settledBlock «in_hblank» b ⌝ }
 {
-    HblankBlock {
-        remaining: b.remaining,
-        start_edge: b.start_edge,
-        taken: b.taken & in_hblank,
-        setup_cells: Countdown(b.setup_cells.0),
-        ready_in: Countdown(b.ready_in.0),
-        seize_falls: 0,
-        from_arm: b.from_arm,
-        arm_ready_probation: b.arm_ready_probation,
-    }
+    let idle = rebuild::with_block_seize_falls(b, 0);
+    rebuild::with_block_taken(idle, b.taken & in_hblank)
 }
 
 // Outside mode 0, running or within the M-cycle of the halt latch.
@@ -34,16 +33,7 @@ pub fn taken_clears(v: View, halted_falls: u8) -> bool
 pub fn keep_taken(b: HblankBlock, clear: bool) -> HblankBlock
     ensures { λ r. ⌜ r ≡ keptTaken clear b ⌝ }
 {
-    HblankBlock {
-        remaining: b.remaining,
-        start_edge: b.start_edge,
-        taken: b.taken & !clear,
-        setup_cells: Countdown(b.setup_cells.0),
-        ready_in: Countdown(b.ready_in.0),
-        seize_falls: b.seize_falls,
-        from_arm: b.from_arm,
-        arm_ready_probation: b.arm_ready_probation,
-    }
+    rebuild::with_block_taken(b, b.taken & !clear)
 }
 
 pub fn reverts(b: HblankBlock, v: View) -> bool
@@ -56,16 +46,9 @@ pub fn judge(b: HblankBlock, back: bool) -> HblankBlock
     ensures { λ r. ⌜ r ≡ judgedBlock back b ⌝ }
 {
     let remaining = pick8(back, 0, b.remaining);
-    HblankBlock {
-        remaining: remaining,
-        start_edge: b.start_edge,
-        taken: b.taken,
-        setup_cells: Countdown(b.setup_cells.0),
-        ready_in: Countdown(b.ready_in.0),
-        seize_falls: b.seize_falls,
-        from_arm: b.from_arm & !back,
-        arm_ready_probation: false,
-    }
+    let judged = rebuild::with_block_arm_ready_probation(b, false);
+    let marked = rebuild::with_block_from_arm(judged, b.from_arm & !back);
+    rebuild::with_block_remaining(marked, remaining)
 }
 
 pub fn joins_halt(b: HblankBlock, v: View) -> bool
@@ -80,16 +63,9 @@ pub fn drop_if(b: HblankBlock, joins: bool) -> HblankBlock
     if joins {
         let ready = b.ready_in.clear();
         let setup = b.setup_cells.clear();
-        return HblankBlock {
-            remaining: 0,
-            start_edge: b.start_edge,
-            taken: b.taken,
-            setup_cells: setup,
-            ready_in: ready,
-            seize_falls: b.seize_falls,
-            from_arm: b.from_arm,
-            arm_ready_probation: b.arm_ready_probation,
-        };
+        let uncharged = rebuild::with_block_setup_cells(b, setup);
+        let unready = rebuild::with_block_ready_in(uncharged, ready);
+        return rebuild::with_block_remaining(unready, 0);
     }
     b
 }
@@ -97,16 +73,7 @@ pub fn drop_if(b: HblankBlock, joins: bool) -> HblankBlock
 pub fn take_if(b: HblankBlock, takes: bool) -> HblankBlock
     ensures { λ r. ⌜ r ≡ takenIf takes b ⌝ }
 {
-    HblankBlock {
-        remaining: b.remaining,
-        start_edge: b.start_edge,
-        taken: b.taken | takes,
-        setup_cells: Countdown(b.setup_cells.0),
-        ready_in: Countdown(b.ready_in.0),
-        seize_falls: b.seize_falls,
-        from_arm: b.from_arm,
-        arm_ready_probation: b.arm_ready_probation,
-    }
+    rebuild::with_block_taken(b, b.taken | takes)
 }
 
 // The grant charged the set-up during the halt.
@@ -130,16 +97,12 @@ pub fn commit(b: HblankBlock, v: View, a: HaltArbiter, committing: bool) -> Hbla
         let charged = precharged(a, v);
         let ready = armed_unless(charged, 2);
         let setup = armed_unless(a.pend_from_arm | charged, 1);
-        return HblankBlock {
-            remaining: 16,
-            start_edge: v.master_edge,
-            taken: true,
-            setup_cells: setup,
-            ready_in: ready,
-            seize_falls: b.seize_falls,
-            from_arm: a.pend_from_arm,
-            arm_ready_probation: b.arm_ready_probation,
-        };
+        let marked = rebuild::with_block_from_arm(b, a.pend_from_arm);
+        let waiting = rebuild::with_block_ready_in(marked, ready);
+        let charging = rebuild::with_block_setup_cells(waiting, setup);
+        let taken = rebuild::with_block_taken(charging, true);
+        let begun = rebuild::with_block_start_edge(taken, v.master_edge);
+        return rebuild::with_block_remaining(begun, 16);
     }
     b
 }
@@ -149,16 +112,8 @@ pub fn step_readiness(b: HblankBlock, double_speed: bool) -> HblankBlock
 {
     let ready = b.ready_in.expired();
     let probation = ready.flag & b.from_arm & (b.remaining == 16) & !double_speed;
-    HblankBlock {
-        remaining: b.remaining,
-        start_edge: b.start_edge,
-        taken: b.taken,
-        setup_cells: Countdown(b.setup_cells.0),
-        ready_in: Countdown(ready.next.0),
-        seize_falls: b.seize_falls,
-        from_arm: b.from_arm,
-        arm_ready_probation: b.arm_ready_probation | probation,
-    }
+    let judged = rebuild::with_block_arm_ready_probation(b, b.arm_ready_probation | probation);
+    rebuild::with_block_ready_in(judged, ready.next)
 }
 
 fn seizure_count(seizes: bool, n: u8) -> u8
@@ -171,14 +126,5 @@ pub fn count_seizure(b: HblankBlock, seizes: bool) -> HblankBlock
     ensures { λ r. ⌜ r ≡ seizedBlock seizes b ⌝ }
 {
     let n = seizure_count(seizes, b.seize_falls);
-    HblankBlock {
-        remaining: b.remaining,
-        start_edge: b.start_edge,
-        taken: b.taken,
-        setup_cells: Countdown(b.setup_cells.0),
-        ready_in: Countdown(b.ready_in.0),
-        seize_falls: n,
-        from_arm: b.from_arm,
-        arm_ready_probation: b.arm_ready_probation,
-    }
+    rebuild::with_block_seize_falls(b, n)
 }

@@ -1,7 +1,7 @@
 -- `decide` meets its contract. Assumes nothing.
 use Rattle.fall_stages.specs.Fall.{decidedOf}
-use Rattle.fall_edge.proofs.decide.Statement.{statement}
-use Rattle.fall_edge.proofs.decide.Tie as tie
+use Rattle.block_service.proofs.decide.Statement.{statement}
+use Rattle.block_service.proofs.decide.Tie as tie
 
 returns : tie.Need-returns
 unfolding decidedOf
@@ -9,7 +9,12 @@ returns c = rw (← c .before .before .before .before .committing .ensures, c .b
 
 returns-2 : tie.Need-returns-2
 unfolding decidedOf
-returns-2 c = rw (← c .before .before .before .before .before .before .committing .ensures, c .before .before .before .if1 .left, c .before .before .serve .ensures)
+returns-2 c =
+    rw (
+      ← c .before .before .before .before .before .before .committing .ensures,
+      c .before .before .before .if1 .left,
+      c .before .before .serve .ensures,
+    )
 
 pub decide-spec : {M : Type 1} → statement M
 decide-spec = tie.close (tie.spec (λ _ _. tt) (λ _ _. tt) returns (λ _ _. tt) returns-2)

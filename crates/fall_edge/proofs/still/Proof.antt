@@ -3,7 +3,7 @@ use Rattle.fall_edge.proofs.still.Statement.{statement}
 use Rattle.fall_edge.proofs.still.Tie as tie
 
 returns : tie.Need-returns
-returns c = simp (c .active5 .ensures, c .before .active4 .ensures, c .before .before .active3 .ensures, c .before .before .before .before .before .before .before .before .active2 .ensures, c .before .before .before .before .before .before .before .before .before .active .ensures)
+returns c = simp (c .still2 .ensures, c .before .still .ensures)
 
 pub still-spec : {M : Type 1} → statement M
-still-spec = tie.close (tie.spec (λ _ _. tt) (λ _ _. tt) (λ _ _. tt) (λ _ _. tt) (λ _ _. tt) returns)
+still-spec = tie.close (tie.spec (λ _ _. tt) (λ _ _. tt) returns)

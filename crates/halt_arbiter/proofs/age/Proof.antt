@@ -5,7 +5,7 @@ use Rattle.halt_arbiter.proofs.age.Tie as tie
 
 returns : tie.Need-returns
 unfolding agedArb
-returns c = simp (c .saturating-inc-if .ensures)
+returns c = simp (c .with-arb-pend-age .ensures, c .before .saturating-inc-if .ensures)
 
 pub age-spec : {M : Type 1} → statement M
-age-spec = tie.close (tie.spec (λ _ _. tt) returns)
+age-spec = tie.close (tie.spec (λ _ _. tt) (λ _ _. tt) returns)

@@ -5,7 +5,14 @@ use Rattle.halt_arbiter.proofs.observe.Tie as tie
 
 returns : tie.Need-returns
 unfolding observedArb
-returns c = simp (c .wake-blind .ensures, c .before .before .before .halted-falls .ensures)
+returns c =
+    simp (
+      c .with-arb-prev-view-hblank .ensures,
+      c .before .with-arb-halted-falls .ensures,
+      c .before .before .with-arb-halt-wake-blind .ensures,
+      c .before .before .before .wake-blind .ensures,
+      c .before .before .before .before .before .before .halted-falls .ensures,
+    )
 
 pub observe-spec : {M : Type 1} → statement M
-observe-spec = tie.close (tie.spec (λ _ _. tt) (λ _ _. tt) returns)
+observe-spec = tie.close (tie.spec (λ _ _. tt) (λ _ _. tt) (λ _ _. tt) (λ _ _. tt) (λ _ _. tt) returns)

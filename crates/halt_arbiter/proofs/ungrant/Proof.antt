@@ -5,7 +5,7 @@ use Rattle.halt_arbiter.proofs.ungrant.Tie as tie
 
 returns : tie.Need-returns
 unfolding ungrantedArb
-returns c = simp (c .less-one-if .ensures)
+returns c = simp (c .with-arb-granted-ahead .ensures, c .before .less-one-if .ensures)
 
 pub ungrant-spec : {M : Type 1} → statement M
-ungrant-spec = tie.close (tie.spec (λ _ _. tt) returns)
+ungrant-spec = tie.close (tie.spec (λ _ _. tt) (λ _ _. tt) returns)

@@ -1,7 +1,7 @@
 -- `start` meets its contract. Assumes nothing.
 use Rattle.fall_stages.specs.Fall.{startedOf}
-use Rattle.fall_edge.proofs.start.Statement.{statement}
-use Rattle.fall_edge.proofs.start.Tie as tie
+use Rattle.halt_gate.proofs.start.Statement.{statement}
+use Rattle.halt_gate.proofs.start.Tie as tie
 
 returns : tie.Need-returns
 unfolding startedOf

@@ -1,7 +1,7 @@
 -- `view` meets its contract. Assumes nothing.
 use Rattle.fall_stages.specs.Fall.{viewOf}
-use Rattle.fall_edge.proofs.view.Statement.{statement}
-use Rattle.fall_edge.proofs.view.Tie as tie
+use Rattle.halt_gate.proofs.view.Statement.{statement}
+use Rattle.halt_gate.proofs.view.Tie as tie
 
 returns : tie.Need-returns
 unfolding viewOf

@@ -5,7 +5,7 @@ use Rattle.hblank_block.proofs.count_seizure.Tie as tie
 
 returns : tie.Need-returns
 unfolding seizedBlock
-returns c = simp (c .seizure-count .ensures)
+returns c = simp (c .with-block-seize-falls .ensures, c .before .seizure-count .ensures)
 
 pub count-seizure-spec : {M : Type 1} → statement M
-count-seizure-spec = tie.close (tie.spec (λ _ _. tt) returns)
+count-seizure-spec = tie.close (tie.spec (λ _ _. tt) (λ _ _. tt) returns)

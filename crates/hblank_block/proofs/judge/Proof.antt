@@ -5,7 +5,13 @@ use Rattle.hblank_block.proofs.judge.Tie as tie
 
 returns : tie.Need-returns
 unfolding judgedBlock
-returns c = simp (c .before .pick8 .ensures)
+returns c =
+    simp (
+      c .with-block-remaining .ensures,
+      c .before .with-block-from-arm .ensures,
+      c .before .before .before .with-block-arm-ready-probation .ensures,
+      c .before .before .before .before .pick8 .ensures,
+    )
 
 pub judge-spec : {M : Type 1} → statement M
-judge-spec = tie.close (tie.spec (λ _ _. tt) returns)
+judge-spec = tie.close (tie.spec (λ _ _. tt) (λ _ _. tt) (λ _ _. tt) (λ _ _. tt) returns)
