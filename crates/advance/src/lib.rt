@@ -1,0 +1,113 @@
+// A pair: the address that its byte lands on, and cursor, block and arbiter after it (vram_dma.rs, `write_address`,
+// `next_byte`). Whether one comes is asked in `next_pair`.
+ghost use mathlib.Core.Path.{_≡_};
+ghost use Rattle.transfer.specs.Questions.{writeAddress};
+ghost use Rattle.transfer.specs.Pair.{leftIf, cursorAfter, blockAfter, arbAfter, advancedOf};
+use console::vram_dma::HaltArbiter;
+use console::vram_dma::HblankBlock;
+use console::vram_dma::OamContention;
+use console::vram_dma::TransferCursor;
+use console::vram_dma::TransferMode;
+use console::vram_dma::VramDma;
+use console::vram_dma::pick_mode;
+use countdown::Countdown;
+use countdown::pick::pick16;
+use countdown::step::less_one;
+use countdown::step::less_one_if;
+use countdown::step::overflowing_add16;
+use countdown::step::saturating_sub16;
+
+// The VRAM address that the next byte lands on.
+pub fn write_address(c: TransferCursor) -> u16
+    ensures { λ r. ⌜ r ≡ writeAddress c ⌝ }
+{
+    0x8000 + c.dest % 0x2000
+}
+
+// What is left after a pair: an owed escape is taken instead, and a carry ends the transfer.
+fn left_after(c: TransferCursor, carried: bool) -> u16
+    ensures { λ r. ⌜ r ≡ leftIf carried c ⌝ }
+{
+    let counted = pick16(c.escape_byte, c.remaining, saturating_sub16(c.remaining, 1));
+    pick16(carried, 0, counted)
+}
+
+fn cursor_after(c: TransferCursor) -> TransferCursor
+    ensures { λ r. ⌜ r ≡ cursorAfter c ⌝ }
+{
+    let dest = overflowing_add16(c.dest, 1);
+    let left = left_after(c, dest.carry);
+    let old = c.mode;
+    let mode = pick_mode(left == 0, TransferMode::Idle, old);
+    let source = std::num::wrapping_add_u16(c.source, 1);
+    let quota = less_one(c.quota);
+    TransferCursor {
+        source: source,
+        dest: dest.sum,
+        mode: mode,
+        remaining: left,
+        quota: quota,
+        escape_byte: false,
+    }
+}
+
+fn block_after(b: HblankBlock) -> HblankBlock
+    ensures { λ r. ⌜ r ≡ blockAfter b ⌝ }
+{
+    let last = b.remaining == 1;
+    let remaining = less_one(b.remaining);
+    HblankBlock {
+        remaining: remaining,
+        start_edge: b.start_edge,
+        taken: b.taken,
+        setup_cells: Countdown(b.setup_cells.0),
+        ready_in: Countdown(b.ready_in.0),
+        seize_falls: b.seize_falls,
+        from_arm: b.from_arm & !last,
+        arm_ready_probation: b.arm_ready_probation,
+    }
+}
+
+// last: the pair is the block's last one; ended: nothing is left.
+fn arb_after(a: HaltArbiter, last: bool, ended: bool) -> HaltArbiter
+    ensures { λ r. ⌜ r ≡ arbAfter last ended a ⌝ }
+{
+    let granted = less_one_if(last, a.granted_ahead);
+    let park = a.park_waits_for_fetch & !last;
+    let claim = a.idle_claim & !ended;
+    HaltArbiter {
+        pend: a.pend,
+        pend_from_arm: a.pend_from_arm,
+        armed_this_fall: a.armed_this_fall,
+        halted_falls: a.halted_falls,
+        prev_view_hblank: a.prev_view_hblank,
+        pend_age: a.pend_age,
+        pend_granted: a.pend_granted,
+        wake_tenure: Countdown(a.wake_tenure.0),
+        park_waits_for_fetch: park,
+        idle_claim: claim,
+        halt_wake_blind: Countdown(a.halt_wake_blind.0),
+        prev_cpu_halted: a.prev_cpu_halted,
+        grant_counted: a.grant_counted,
+        wake_pend_blind: Countdown(a.wake_pend_blind.0),
+        granted_ahead: granted,
+    }
+}
+
+pub fn advance(d: VramDma) -> VramDma
+    ensures { λ r. ⌜ r ≡ advancedOf d ⌝ }
+{
+    let last = d.block.remaining == 1;
+    let cursor = cursor_after(d.cursor);
+    let block = block_after(d.block);
+    let arb = arb_after(d.arb, last, cursor.remaining == 0);
+    VramDma {
+        cursor: cursor,
+        block: block,
+        arb: arb,
+        oam: OamContention {
+            was_transferring: d.oam.was_transferring,
+            contended: d.oam.contended,
+        },
+    }
+}

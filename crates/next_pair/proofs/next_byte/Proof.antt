@@ -1,0 +1,15 @@
+-- `next_byte` meets its contract. Assumes nothing.
+use Rattle.transfer.specs.Pair.{nextByteOf}
+use Rattle.next_pair.proofs.next_byte.Statement.{statement}
+use Rattle.next_pair.proofs.next_byte.Tie as tie
+
+returns : tie.Need-returns
+unfolding nextByteOf
+returns c = rw (← c .before .before .before .moving .ensures, c .before .before .if1 .taken, c .before .write-address .ensures, c .advance .ensures)
+
+returns-2 : tie.Need-returns-2
+unfolding nextByteOf
+returns-2 c = rw (← c .before .before .moving .ensures, c .before .if1 .left, c .dma .ensures)
+
+pub next-byte-spec : {M : Type 1} → statement M
+next-byte-spec = tie.close (tie.spec (λ _ _. tt) (λ _ _. tt) (λ _ _. tt) returns (λ _ _. tt) returns-2)
