@@ -14,14 +14,13 @@ use Rattle.transfer.specs.declared.pair.BytePair.{BytePair}
 use Rattle.transfer.specs.declared.pair.NextAnswer.{NextAnswer}
 use Rattle.transfer.specs.declared.pair.NextAnswer.the-variants.{Pair, None}
 use Rattle.transfer.specs.declared.pair.NextByte.{NextByte}
-use Rattle.bus.specs.Commit.{Taken, nothing, after, takenOf, pairsOf, holdsBus, setupStands, busTaken}
+use Rattle.bus.specs.Commit.{Taken, nothing, afterAnswer, takenOf, pairsOf, holdsBus, setupStands, busTaken}
 use Rattle.bus.specs.Deposit.{less64, deposited}
 use Rattle.bus.specs.Source.{sourceByte}
 use Rattle.bus.specs.Store.{oamWith}
 use Rattle.bus.specs.BusSteps.{BusSteps, ReadingOrder, Stored, Deposits, Wraps}
 use Rattle.bus.specs.declared.commit.BusInput.{BusInput}
-use Rattle.bus.proofs.Pairs.{quota-falls, pairs-none, pairs-one, pairs-no-setup}
-use Rattle.bus.proofs.Committed.{released, cell, moving}
+use Rattle.bus.proofs.Taken.{released, cell, moving, quota-falls, pairs-none, pairs-one}
 
 neither : (a b : Bool) → a ≡ false → b ≡ false → (a || b) ≡ false
 neither true b p q = p
@@ -36,7 +35,7 @@ taken-ends (suc n) d q = by (nextByteOf d .answer) refl (λ k. taken-ends n (nex
     by :
         (a : NextAnswer) → nextByteOf d .answer ≡ a →
         (nextByteOf d .dma .cursor .quota ≡ n → nextByteOf (takenOf n (nextByteOf d .dma) .dma) .answer ≡ None) →
-        nextByteOf (after d a (takenOf n (nextByteOf d .dma)) .dma) .answer ≡ None
+        nextByteOf (afterAnswer d a (takenOf n (nextByteOf d .dma)) .dma) .answer ≡ None
     by (Pair p) e rest = rest (let fell = quota-falls d p e in omega arith)
     by None e rest = e
 
@@ -48,7 +47,7 @@ taken-quota (suc n) d = by (nextByteOf d .answer) refl (taken-quota n (nextByteO
     by :
         (a : NextAnswer) → nextByteOf d .answer ≡ a →
         length (takenOf n (nextByteOf d .dma) .pairs) + takenOf n (nextByteOf d .dma) .dma .cursor .quota ≡ nextByteOf d .dma .cursor .quota →
-        length (after d a (takenOf n (nextByteOf d .dma)) .pairs) + after d a (takenOf n (nextByteOf d .dma)) .dma .cursor .quota ≡ d .cursor .quota
+        length (afterAnswer d a (takenOf n (nextByteOf d .dma)) .pairs) + afterAnswer d a (takenOf n (nextByteOf d .dma)) .dma .cursor .quota ≡ d .cursor .quota
     by (Pair p) e rest = let fell = quota-falls d p e in omega arith
     by None e rest = omega arith
 

@@ -9,7 +9,7 @@ use Rattle.transfer.specs.Pair.{nextByteOf}
 use Rattle.transfer.specs.declared.pair.NextAnswer.{NextAnswer}
 use Rattle.transfer.specs.declared.pair.NextAnswer.the-variants.{Pair, None}
 use Rattle.transfer.proofs.Sound.{next-sound}
-use Rattle.bus.specs.Commit.{Taken, nothing, after, takenOf, pairsOf, holdsBus, setupStands, withCells, busTaken}
+use Rattle.bus.specs.Commit.{Taken, nothing, afterAnswer, takenOf, pairsOf, holdsBus, setupStands, withCells, busTaken}
 use Rattle.bus.specs.declared.commit.BusInput.{BusInput}
 
 taken-sound : (n : ℕ) (d : VramDma) → Sound d → Sound (takenOf n d .dma)
@@ -17,7 +17,7 @@ unfolding takenOf
 taken-sound zero d k = k
 taken-sound (suc n) d k = by (nextByteOf d .answer) (taken-sound n (nextByteOf d .dma) (next-sound d k))
   where
-    by : (a : NextAnswer) → Sound (takenOf n (nextByteOf d .dma) .dma) → Sound (after d a (takenOf n (nextByteOf d .dma)) .dma)
+    by : (a : NextAnswer) → Sound (takenOf n (nextByteOf d .dma) .dma) → Sound (afterAnswer d a (takenOf n (nextByteOf d .dma)) .dma)
     by (Pair p) rest = rest
     by None rest = k
 

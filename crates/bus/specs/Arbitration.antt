@@ -8,17 +8,17 @@ use Rattle.bus.specs.declared.arbitration.Arbitration.the-variants.{Clea
 use Rattle.bus.specs.declared.arbitration.ArbitrationInput.{ArbitrationInput}
 
 -- held or suspended
-abbrev pub active : ArbitrationInput → Bool
-active i = i .hold || i .suspended
+abbrev pub hdmaActive : ArbitrationInput → Bool
+hdmaActive i = i .hold || i .suspended
 
 -- single speed, OAM DMA now or at the call before, and a byte that moves
 unfoldable pub contends : Bool → ArbitrationInput → VramDma → Bool
 contends double i d =
-    not double && (i .«oam_transferring» || d .oam .«was_transferring») && active i && willMove d
+    not double && (i .«oam_transferring» || d .oam .«was_transferring») && hdmaActive i && willMove d
 
 -- double speed, OAM DMA now, and an escape byte that moves
 unfoldable pub stalls : Bool → ArbitrationInput → VramDma → Bool
-stalls double i d = double && i .«oam_transferring» && active i && d .cursor .«escape_byte» && willMove d
+stalls double i d = double && i .«oam_transferring» && hdmaActive i && d .cursor .«escape_byte» && willMove d
 
 -- the two exclude each other: one is of single speed, the other of double
 unfoldable pub arbitrationOf : Bool → Bool → Arbitration

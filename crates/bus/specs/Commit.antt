@@ -30,14 +30,14 @@ abbrev pub nothing : VramDma → Taken
 nothing d = record { dma = d; pairs = []; setup = false }
 
 -- "a pair is moved, anything else ends the call"
-abbrev pub after : VramDma → NextAnswer → Taken → Taken
-after d (Pair p) rest = record { dma = rest .dma; pairs = p ∷ rest .pairs; setup = false }
-after d None rest = nothing d
+abbrev pub afterAnswer : VramDma → NextAnswer → Taken → Taken
+afterAnswer d (Pair p) rest = record { dma = rest .dma; pairs = p ∷ rest .pairs; setup = false }
+afterAnswer d None rest = nothing d
 
 -- at most n pairs
 unfoldable pub takenOf : ℕ → VramDma → Taken
 takenOf zero d = nothing d
-takenOf (suc n) d = after d (nextByteOf d .answer) (takenOf n (nextByteOf d .dma))
+takenOf (suc n) d = afterAnswer d (nextByteOf d .answer) (takenOf n (nextByteOf d .dma))
 
 -- "pairs are taken until none comes": a pair takes one from quota, so that no more than quota can come
 unfoldable pub pairsOf : VramDma → Taken
@@ -101,8 +101,8 @@ pub record Ran : Type 0 where
   pub run : Run
   pub vram : List ℕ
 
-unfoldable pub ranOf : Banks → List ℕ → List ℕ → VramDma → List ℕ → Ran
-ranOf banks cartridge wram d vram =
+unfoldable pub loopOf : Banks → List ℕ → List ℕ → VramDma → List ℕ → Ran
+loopOf banks cartridge wram d vram =
     record { run = runOf banks cartridge wram (pairsOf d); vram = vramAfter banks cartridge wram (pairsOf d .pairs) vram }
 
 abbrev pub restRun : VramDma → Run

@@ -1,5 +1,5 @@
 pub mod Arbitration
-pub mod Steps
+pub mod ArbitrationSteps
 pub mod Source
 pub mod Store
 pub mod Deposit

@@ -1,7 +1,5 @@
-// The bus that VRAM DMA shares with OAM DMA: arbitration, where a byte is read and stored, the bus
-// call's loop and the byte that lands in OAM.
+// The bus that VRAM DMA shares with OAM DMA: what arbitration and the bus call are given and give. Definitions and laws stand
+// in specs/ and proofs/; the functions in `bus_memory` (where a byte is read and stored), `oam_contention` (arbitration, and
+// the byte that lands in OAM) and `bus_commit` (the bus call).
 pub mod arbitration;
 pub mod commit;
-pub mod deposit;
-pub mod source;
-pub mod store;
