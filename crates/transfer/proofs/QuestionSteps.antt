@@ -18,7 +18,7 @@ use Rattle.transfer.specs.QuestionSteps.{Moving, WillMove, BlockLeft, Re
 use Rattle.transfer.specs.declared.Conflict.the-variants.{Source, None}
 use Rattle.transfer.proofs.Conditions.{when-lt, when-le, when-eq, when-zero, when-both, when-either, when-false}
 
-when-general : (m : TransferMode) → (isGeneral m ≡ true) ↔ (m ≡ General)
+pub when-general : (m : TransferMode) → (isGeneral m ≡ true) ↔ (m ≡ General)
 when-general Idle = (λ e. absurd (false≢true e), λ e. ap isGeneral e)
 when-general General = (λ e. refl, λ e. refl)
 when-general HBlank = (λ e. absurd (false≢true e), λ e. ap isGeneral e)

@@ -11,7 +11,7 @@ use Rattle.transfer.specs.Latch.{latchedBlock, latchedOf, unclaimed, lat
 use Rattle.transfer.specs.Pair.{movingOf, leftAfter, cursorAfter, blockAfter, advancedOf, pairOf, nextByteOf, withQuota, drainOf}
 use Rattle.transfer.specs.declared.pair.NextAnswer.the-variants.{Pair, None}
 use Rattle.transfer.specs.declared.pair.NextByte.{NextByte}
-use Rattle.transfer.proofs.Steps.{block-falls}
+use Rattle.transfer.proofs.PairSteps.{block-falls}
 
 either : (b : Bool) (x y n : ℕ) → x ≤ n → y ≤ n → cond b x y ≤ n
 either true x y n p q = p

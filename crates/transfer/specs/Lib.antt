@@ -2,6 +2,8 @@ pub mod Questions
 pub mod Latch
 pub mod Pair
 pub mod Conflict
-pub mod Steps
+pub mod PairSteps
 pub mod QuestionSteps
 pub mod LcdSteps
+pub mod PairsLeft
+pub mod Keeps

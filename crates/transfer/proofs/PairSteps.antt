@@ -11,7 +11,7 @@ use Rattle.countdown.specs.Countdown.{activeOf}
 use Rattle.console.specs.Modes.{isGeneral}
 use Rattle.console.specs.declared.vram_dma.VramDma.{VramDma}
 use Rattle.transfer.specs.Pair.{movingOf, cursorAfter, blockAfter, arbAfter, pairOf, advancedOf, nextByteOf, withQuota, drainOf}
-use Rattle.transfer.specs.Steps.{Ready, Moved, PairSteps}
+use Rattle.transfer.specs.PairSteps.{Ready, Moved, PairSteps}
 use Rattle.transfer.specs.declared.pair.NextAnswer.the-variants.{Pair, None}
 
 -- bytes are left wherever the engine moves
