@@ -1,98 +1,158 @@
--- The bus call does what document 01 says of it (specs, `BusSteps` and the records beside it). Assumes nothing.
-use Prim.Native.Nat.{ℕ, zero, suc, _+_, _-_, _*_, _%_, _^_, _<_, _≤_}
+-- The bus call does what document 01 says of it (specs, `BusSteps`). Assumes nothing.
+use Prim.Native.Nat.{ℕ, suc, _+_, _-_, _<_, min}
 use native.Mathlib.Omega.{arith}
 use mathlib.Core.Path.{_≡_, refl, sym, ap, subst, _∙_}
-use mathlib.Core.Bool.{Bool, true, false, cond, not, _||_, _&&_}
-use mathlib.Core.List.{List, [], _∷_}
-use lib.Dec.{eqb, ltb}
+use mathlib.Core.Bool.{Bool, true, false, cond, _||_, false≢true}
+use mathlib.Core.List.{_∷_}
+use mathlib.Core.Logic.{_↔_, ⊎-elim}
+use native.Mathlib.Nat.{eq-zero-or-pos}
 use lib.ListN.{length}
-use borrow.Author.Tests.{lt-ltb, le-ltb, le-leb, lt-leb, ne-eqb}
+use borrow.Author.Tests.{lt-ltb}
+use Rattle.countdown.specs.Countdown.{activeOf}
+use Rattle.countdown.specs.declared.Countdown.{Countdown}
+use Rattle.console.specs.Modes.{isGeneral}
+use Rattle.console.specs.declared.vram_dma.TransferMode.the-variants.{General}
 use Rattle.console.specs.declared.vram_dma.VramDma.{VramDma}
-use Rattle.transfer.specs.Pair.{movingOf, pairOf, advancedOf, blockAfter, nextByteOf}
-use Rattle.transfer.proofs.PairSteps.{pair-steps}
+use Rattle.transfer.specs.Keeps.{KeepsMarks, SixteenBits}
+use Rattle.transfer.specs.Pair.{cursorAfter, blockAfter, advancedOf, nextByteOf}
+use Rattle.transfer.specs.PairsLeft.{pairsLeft, movable}
+use Rattle.transfer.specs.PairSteps.{Ready}
 use Rattle.transfer.specs.declared.pair.BytePair.{BytePair}
-use Rattle.transfer.specs.declared.pair.NextAnswer.{NextAnswer}
 use Rattle.transfer.specs.declared.pair.NextAnswer.the-variants.{Pair, None}
-use Rattle.transfer.specs.declared.pair.NextByte.{NextByte}
-use Rattle.bus.specs.Commit.{Taken, nothing, afterAnswer, takenOf, pairsOf, holdsBus, setupStands, busTaken}
-use Rattle.bus.specs.Deposit.{less64, deposited}
-use Rattle.bus.specs.Source.{sourceByte}
-use Rattle.bus.specs.Store.{oamWith}
-use Rattle.bus.specs.BusSteps.{BusSteps, ReadingOrder, Stored, Deposits, Wraps}
+use Rattle.transfer.proofs.Keeps.{keeps-refl, next-keeps, keeps}
+use Rattle.transfer.proofs.PairsLeft.{pairs-left}
+use Rattle.transfer.proofs.PairSteps.{pair-steps}
+use Rattle.bus.specs.BusSteps.{HandsOut, BusSteps}
+use Rattle.bus.specs.Commit.{Taken, nothing, pairsOf, holdsBus, setupStands, withCells, busTaken}
 use Rattle.bus.specs.declared.commit.BusInput.{BusInput}
-use Rattle.bus.proofs.Taken.{released, cell, moving, quota-falls, pairs-none, pairs-one}
+use Rattle.bus.proofs.Taken.{released, cell, moving, each-kind, no-pair, is-ready, quota-falls}
+use Rattle.bus.proofs.Taken.{pairs-none, pairs-one, by-pairs, pairs-keep, bus-keeps, pairs-no-setup}
 
 neither : (a b : Bool) → a ≡ false → b ≡ false → (a || b) ≡ false
 neither true b p q = p
 neither false b p q = q
 
--- with as many tries as the quota has, none comes at the end
-taken-ends : (n : ℕ) (d : VramDma) → d .cursor .quota ≡ n → nextByteOf (takenOf n d .dma) .answer ≡ None
-unfolding takenOf
-taken-ends zero d q = ap (λ (x : NextByte). x .answer) (pair-steps .no-quota d q)
-taken-ends (suc n) d q = by (nextByteOf d .answer) refl (λ k. taken-ends n (nextByteOf d .dma) k)
-  where
-    by :
-        (a : NextAnswer) → nextByteOf d .answer ≡ a →
-        (nextByteOf d .dma .cursor .quota ≡ n → nextByteOf (takenOf n (nextByteOf d .dma) .dma) .answer ≡ None) →
-        nextByteOf (afterAnswer d a (takenOf n (nextByteOf d .dma)) .dma) .answer ≡ None
-    by (Pair p) e rest = rest (let fell = quota-falls d p e in omega arith)
-    by None e rest = e
-
-taken-quota : (n : ℕ) (d : VramDma) → length (takenOf n d .pairs) + takenOf n d .dma .cursor .quota ≡ d .cursor .quota
-unfolding takenOf
-taken-quota zero d = omega arith
-taken-quota (suc n) d = by (nextByteOf d .answer) refl (taken-quota n (nextByteOf d .dma))
-  where
-    by :
-        (a : NextAnswer) → nextByteOf d .answer ≡ a →
-        length (takenOf n (nextByteOf d .dma) .pairs) + takenOf n (nextByteOf d .dma) .dma .cursor .quota ≡ nextByteOf d .dma .cursor .quota →
-        length (afterAnswer d a (takenOf n (nextByteOf d .dma)) .pairs) + afterAnswer d a (takenOf n (nextByteOf d .dma)) .dma .cursor .quota ≡ d .cursor .quota
-    by (Pair p) e rest = let fell = quota-falls d p e in omega arith
-    by None e rest = omega arith
+-- pairs are taken until none comes
+pairs-end : (d : VramDma) → nextByteOf (pairsOf d .dma) .answer ≡ None
+pairs-end d = by-pairs (λ d t. nextByteOf (t .dma) .answer ≡ None) (λ d e. e) (λ d p t e rest. rest) d
 
 pairs-quota : (d : VramDma) → length (pairsOf d .pairs) + pairsOf d .dma .cursor .quota ≡ d .cursor .quota
-unfolding pairsOf
-pairs-quota d = taken-quota (d .cursor .quota) d
+pairs-quota d =
+    by-pairs (λ d t. length (t .pairs) + t .dma .cursor .quota ≡ d .cursor .quota) (λ d e. omega arith)
+    (λ d p t e rest. let fell = quota-falls d p e in omega (arith, fell, rest)) d
 
-pairs-end : (d : VramDma) → nextByteOf (pairsOf d .dma) .answer ≡ None
-unfolding pairsOf
-pairs-end d = taken-ends (d .cursor .quota) d refl
+-- how many they are
+least-more : (l q m k : ℕ) → l ≡ min q m → m + 1 ≡ k → suc l ≡ min (suc q) k
+least-more l q m k count one = omega arith
 
--- a pair leaves the set-up cells alone
-cells-kept : (d : VramDma) → setupStands (nextByteOf d .dma) ≡ setupStands d
-unfolding nextByteOf advancedOf blockAfter
-cells-kept d = by (ltb 0 (d .cursor .quota) && movingOf d)
+rest-more : (l a b c : ℕ) → l + a ≡ b → b + 1 ≡ c → suc l + a ≡ c
+rest-more l a b c rest one = omega arith
+
+-- none comes because quota is spent or nothing may move
+none-movable : (d : VramDma) → d .cursor .dest < 65536 → nextByteOf d .answer ≡ None → 0 ≡ min (d .cursor .quota) (movable d)
+none-movable d low e = ⊎-elim (λ none. omega (arith, none)) (λ some. stuck some (movable d) refl) (eq-zero-or-pos (d .cursor .quota))
   where
-    by : (b : Bool) → setupStands (cond {A = NextByte} b (record { answer = Pair (pairOf (d .cursor)); dma = advancedOf d }) (record { answer = None; dma = d }) .dma) ≡ setupStands d
-    by true = refl
-    by false = refl
+    stuck : 0 < d .cursor .quota → (m : ℕ) → movable d ≡ m → 0 ≡ min (d .cursor .quota) m
+    stuck some m is =
+        ⊎-elim (λ z. omega (arith, z))
+        (λ more.
+        absurd
+        (no-pair _
+        (sym e ∙ pair-steps .gives d (record { quota = some; moving = pairs-left d low .moving .1 (omega (arith, more, is)) }))))
+        (eq-zero-or-pos m)
+
+record Counted (d : VramDma) (t : Taken) : Type 0 where
+  pub count : length (t .pairs) ≡ min (d .cursor .quota) (movable d)
+  pub rest : length (t .pairs) + pairsLeft (t .dma .cursor) ≡ pairsLeft (d .cursor)
+
+counted : (d : VramDma) → d .cursor .dest < 65536 → Counted d (pairsOf d)
+counted d = by-pairs (λ d t. d .cursor .dest < 65536 → Counted d t) over on d
+  where
+    over : (d : VramDma) → nextByteOf d .answer ≡ None → d .cursor .dest < 65536 → Counted d (nothing d)
+    over d e low = record { count = none-movable d low e; rest = omega arith }
+
+    on :
+        (d : VramDma) (p : BytePair) (t : Taken) → nextByteOf d .answer ≡ Pair p →
+        (nextByteOf d .dma .cursor .dest < 65536 → Counted (nextByteOf d .dma) t) → d .cursor .dest < 65536 →
+        Counted d (record { dma = t .dma; pairs = p ∷ t .pairs; setup = false })
+    on d p t e rest low =
+        let r : Ready d = is-ready d p e in
+        let dest = pair-steps .moves d r .dest in
+        let c : Counted (nextByteOf d .dma) t = rest (omega (arith, dest)) in
+        record {
+          count = rw (quota-falls d p e) (least-more _ _ _ _ (c .count) (pairs-left d low .one-movable r));
+          rest = rest-more _ _ _ _ (c .rest) (pairs-left d low .one-left r);
+        }
+
+hands : (d : VramDma) → d .cursor .dest < 65536 → HandsOut d (pairsOf d)
+hands d low =
+    record {
+      count = c .count;
+      general = general;
+      unowed = λ m e. general m ∙ ap (min (d .cursor .quota)) (pairs-left d low .unowed e);
+      rest = c .rest;
+    }
+  where
+    c : Counted d (pairsOf d)
+    c = counted d low
+
+    general : d .cursor .mode ≡ General → length (pairsOf d .pairs) ≡ min (d .cursor .quota) (pairsLeft (d .cursor))
+    general m = c .count ∙ ap (min (d .cursor .quota)) (rw (ap isGeneral m))
+
+-- a pair leaves the set-up cells alone, and pays an escape that is owed
+cells-kept : (d : VramDma) → nextByteOf d .dma .block .«setup_cells» ≡ d .block .«setup_cells»
+unfolding advancedOf blockAfter
+cells-kept d = next-keeps (λ x. x .block .«setup_cells» ≡ d .block .«setup_cells») d refl refl
+
+escape-paid : (d : VramDma) → d .cursor .«escape_byte» ≡ false → nextByteOf d .dma .cursor .«escape_byte» ≡ false
+unfolding advancedOf cursorAfter
+escape-paid d none = next-keeps (λ x. x .cursor .«escape_byte» ≡ false) d none refl
+
+marks-kept : (d e : VramDma) → KeepsMarks d e → KeepsMarks d (nextByteOf e .dma)
+marks-kept d e k =
+    let then = keeps e .pair in
+    record {
+      pend = then .pend ∙ k .pend;
+      from-arm = then .from-arm ∙ k .from-arm;
+      granted = then .granted ∙ k .granted;
+      armed = then .armed ∙ k .armed;
+      taken = then .taken ∙ k .taken;
+    }
 
 module _ (i : BusInput) (d : VramDma) where
-  quota : length (busTaken i d .pairs) + busTaken i d .dma .cursor .quota ≡ d .cursor .quota
-  quota = by (holdsBus i) (setupStands d) refl refl
-    where
-      is : (t : Taken) → busTaken i d ≡ t → length (t .pairs) + t .dma .cursor .quota ≡ d .cursor .quota → length (busTaken i d .pairs) + busTaken i d .dma .cursor .quota ≡ d .cursor .quota
-      is t e h = subst (λ (x : Taken). length (x .pairs) + x .dma .cursor .quota ≡ d .cursor .quota) (sym e) h
-
-      by : (h c : Bool) → holdsBus i ≡ h → setupStands d ≡ c → length (busTaken i d .pairs) + busTaken i d .dma .cursor .quota ≡ d .cursor .quota
-      by true true h c = is _ (cell i d h c) (omega arith)
-      by true false h c = is (pairsOf d) (moving i d h c) (pairs-quota d)
-      by false c h k = is (nothing d) (released i d h) (omega arith)
-
   one :
       (p : BytePair) → holdsBus i ≡ true → setupStands d ≡ false → nextByteOf d .answer ≡ Pair p →
       (busTaken i d .pairs ≡ p ∷ busTaken i (nextByteOf d .dma) .pairs) ×
       (busTaken i d .dma ≡ busTaken i (nextByteOf d .dma) .dma) ×
       (busTaken i d .setup ≡ false)
   one p h c e =
-      let here : busTaken i d ≡ pairsOf d = moving i d h c in
-      let there : busTaken i (nextByteOf d .dma) ≡ pairsOf (nextByteOf d .dma) = moving i (nextByteOf d .dma) h (cells-kept d ∙ c) in
-      let split = here ∙ pairs-one d p e in (
+      let still : setupStands (nextByteOf d .dma) ≡ false = ap activeOf (cells-kept d) ∙ c in
+      let there : busTaken i (nextByteOf d .dma) ≡ pairsOf (nextByteOf d .dma) = moving i (nextByteOf d .dma) h still in
+      let split = moving i d h c ∙ pairs-one d p e in (
         ap (λ (t : Taken). t .pairs) split ∙ ap (λ (t : Taken). p ∷ t .pairs) (sym there),
         ap (λ (t : Taken). t .dma) split ∙ ap (λ (t : Taken). t .dma) (sym there),
         ap (λ (t : Taken). t .setup) split,
       )
+
+  takes-cell : (busTaken i d .setup ≡ true) ↔ ((holdsBus i ≡ true) × (setupStands d ≡ true))
+  takes-cell =
+      each-kind i d (λ (t : Taken). (t .setup ≡ true) ↔ ((holdsBus i ≡ true) × (setupStands d ≡ true)))
+      (λ h. (λ e. absurd (false≢true e), λ k. absurd (false≢true (sym h ∙ k .0))))
+      (λ h c. (λ e. (h, c), λ k. refl))
+      (λ h c. (λ e. absurd (false≢true (sym (pairs-no-setup d) ∙ e)), λ k. absurd (false≢true (sym c ∙ k .1))))
+
+  pairs-cells : pairsOf d .dma .block .«setup_cells» ≡ d .block .«setup_cells»
+  pairs-cells = pairs-keep (λ x. x .block .«setup_cells» ≡ d .block .«setup_cells») (λ x k. cells-kept x ∙ k) d refl
+
+  keeps-cells : busTaken i d .setup ≡ false → busTaken i d .dma .block .«setup_cells» ≡ d .block .«setup_cells»
+  keeps-cells =
+      each-kind i d (λ (t : Taken). t .setup ≡ false → t .dma .block .«setup_cells» ≡ d .block .«setup_cells») (λ h e. refl)
+      (λ h c e. absurd (false≢true (sym e))) (λ h c e. pairs-cells)
+
+  no-cell : setupStands d ≡ false → setupStands (busTaken i d .dma) ≡ false
+  no-cell none =
+      each-kind i d (λ (t : Taken). setupStands (t .dma) ≡ false) (λ h. none) (λ h c. absurd (false≢true (sym none ∙ c)))
+      (λ h c. ap activeOf pairs-cells ∙ none)
 
   pub bus-steps : BusSteps i d
   bus-steps =
@@ -102,46 +162,17 @@ module _ (i : BusInput) (d : VramDma) where
         none = λ h c e. moving i d h c ∙ pairs-none d e;
         one = one;
         ends = λ h c. ap (λ (t : Taken). nextByteOf (t .dma) .answer) (moving i d h c) ∙ pairs-end d;
-        quota = quota;
+        quota =
+            each-kind i d (λ (t : Taken). length (t .pairs) + t .dma .cursor .quota ≡ d .cursor .quota) (λ h. omega arith)
+            (λ h c. omega arith) (λ h c. pairs-quota d);
+        hands-out = λ h c low. subst (HandsOut d) (sym (moving i d h c)) (hands d low);
+        takes-cell = takes-cell;
+        keeps-cells = keeps-cells;
+        no-cell = no-cell;
+        marks = bus-keeps (KeepsMarks d) (marks-kept d) (λ e cells k. cells-marks e cells k) i d (keeps-refl d);
+        sixteen-bits = bus-keeps (λ x. SixteenBits (x .cursor)) (λ x. keeps x .pair-bits) (λ x cells k. k) i d;
+        paid = bus-keeps (λ x. x .cursor .«escape_byte» ≡ false) escape-paid (λ x cells k. k) i d;
       }
-
-pub reading-order : (cartridge wram : List ℕ) (svbk a : ℕ) → ReadingOrder cartridge wram svbk a
-unfolding sourceByte
-reading-order cartridge wram svbk a =
-    record {
-      video = λ l h. rw (le-ltb a 0x8000 l, lt-ltb a 0xA000 (omega arith));
-      upper = λ l. rw (le-ltb a 0x8000 (omega arith), le-ltb a 0xA000 (omega arith), le-ltb a 0xC000 (omega arith), le-ltb a 0xD000 (omega arith), le-ltb a 0xE000 l);
-      fixed = λ l h. rw (le-ltb a 0x8000 (omega arith), le-ltb a 0xA000 (omega arith), le-ltb a 0xC000 l, lt-ltb a 0xD000 (omega arith));
-      banked = λ l h. rw (le-ltb a 0x8000 (omega arith), le-ltb a 0xA000 (omega arith), le-ltb a 0xC000 (omega arith), le-ltb a 0xD000 l, lt-ltb a 0xE000 (omega arith));
-      low = λ h. rw (lt-ltb a 0x8000 h);
-      high = λ l h. rw (le-ltb a 0x8000 (omega arith), le-ltb a 0xA000 l, lt-ltb a 0xC000 (omega arith));
-    }
-
-pub stored : (memory : List ℕ) (a byte : ℕ) → Stored memory a byte
-unfolding oamWith
-stored memory a byte = record { vram = λ bank. refl; oam = λ h. rw (le-leb a 0xFE9F h); above = λ h. rw (lt-leb a 0xFE9F h) }
-
-never-second : (b : Bool) → (b && false) ≡ false
-never-second true = refl
-never-second false = refl
-
-pub deposits : (p q : BytePair) (b c phase : ℕ) (oam : List ℕ) → Deposits p q b c phase oam
-unfolding deposited
-deposits p q b c phase oam =
-    record {
-      uncontended = λ n. refl;
-      nothing = refl;
-      only = rw (never-second (eqb phase 0 || eqb phase 3));
-      second-at-0 = λ e. rw e;
-      second-at-3 = λ e. rw e;
-      first-else = λ x y. rw (ne-eqb phase 0 x, ne-eqb phase 3 y);
-    }
-
-pub wraps : (a b : ℕ) → Wraps a b
-wraps a b = record { plain = λ h k. plain a b h k; below = λ h k. below a b h k }
-  where
-    plain : (a b : ℕ) → b ≤ a → a < 2 ^ 64 → less64 a b ≡ a - b
-    plain a b h k = omega arith
-
-    below : (a b : ℕ) → a < b → b ≤ 2 ^ 64 → less64 a b ≡ (a + 2 ^ 64) - b
-    below a b h k = omega arith
+    where
+      cells-marks : (e : VramDma) (cells : Countdown) → KeepsMarks d e → KeepsMarks d (withCells cells e)
+      cells-marks e cells k = record { pend = k .pend; from-arm = k .from-arm; granted = k .granted; armed = k .armed; taken = k .taken }

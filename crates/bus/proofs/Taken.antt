@@ -1,19 +1,21 @@
 -- What a bus call takes: nothing where it is released, a set-up cell, or pairs one after the other. Assumes nothing.
-use Prim.Native.Nat.{ℕ, zero, suc, _<_}
+use Prim.Native.Nat.{ℕ, zero, suc, _+_, _<_}
 use native.Mathlib.Omega.{arith}
-use mathlib.Core.Path.{_≡_, refl, ap, _∙_}
-use mathlib.Core.Bool.{Bool, true, false, cond, _&&_}
+use mathlib.Core.Path.{_≡_, refl, sym, ap, _∙_}
+use mathlib.Core.Bool.{Bool, true, false, cond}
 use mathlib.Core.List.{[], _∷_}
-use lib.Dec.{ltb}
-use borrow.Author.Tests.{ltb-true}
-use Rattle.countdown.specs.Countdown.{ticked}
+use mathlib.Core.Logic.{⊎-elim}
+use native.Mathlib.Nat.{eq-zero-or-pos}
+use Rattle.countdown.specs.declared.Countdown.{Countdown}
 use Rattle.console.specs.declared.vram_dma.VramDma.{VramDma}
-use Rattle.transfer.specs.Pair.{movingOf, nextByteOf, pairOf, advancedOf, cursorAfter}
+use Rattle.transfer.specs.Pair.{movingOf, nextByteOf}
+use Rattle.transfer.specs.PairSteps.{Ready}
 use Rattle.transfer.specs.declared.pair.BytePair.{BytePair}
 use Rattle.transfer.specs.declared.pair.NextAnswer.{NextAnswer}
 use Rattle.transfer.specs.declared.pair.NextAnswer.the-variants.{Pair, None}
 use Rattle.transfer.specs.declared.pair.NextByte.{NextByte}
-use Rattle.bus.specs.Commit.{nothing, afterAnswer, takenOf, pairsOf, holdsBus, setupStands, withCells, busTaken}
+use Rattle.transfer.proofs.PairSteps.{pair-steps}
+use Rattle.bus.specs.Commit.{Taken, nothing, afterAnswer, takenOf, pairsOf, holdsBus, setupStands, withCells, cellTaken, busTaken}
 use Rattle.bus.specs.declared.commit.BusInput.{BusInput}
 
 module _ (i : BusInput) (d : VramDma) where
@@ -21,13 +23,25 @@ module _ (i : BusInput) (d : VramDma) where
   unfolding busTaken
   released h = rw h
 
-  pub cell : holdsBus i ≡ true → setupStands d ≡ true → busTaken i d ≡ record { dma = withCells (ticked (d .block .«setup_cells») .next) d; pairs = []; setup = true }
+  pub cell : holdsBus i ≡ true → setupStands d ≡ true → busTaken i d ≡ cellTaken d
   unfolding busTaken
   cell h s = rw (h, s)
 
   pub moving : holdsBus i ≡ true → setupStands d ≡ false → busTaken i d ≡ pairsOf d
   unfolding busTaken
   moving h s = rw (h, s)
+
+  -- what holds of each of the three holds of the call
+  pub each-kind :
+      (P : Taken → Type 0) → (holdsBus i ≡ false → P (nothing d)) → (holdsBus i ≡ true → setupStands d ≡ true → P (cellTaken d)) →
+      (holdsBus i ≡ true → setupStands d ≡ false → P (pairsOf d)) → P (busTaken i d)
+  unfolding busTaken
+  each-kind P none one some = by (holdsBus i) refl (setupStands d) refl
+    where
+      by : (h : Bool) → holdsBus i ≡ h → (c : Bool) → setupStands d ≡ c → P (cond h (cond c (cellTaken d) (pairsOf d)) (nothing d))
+      by true h true c = one h c
+      by true h false c = some h c
+      by false h c k = none h
 
 -- where none comes, none is taken
 taken-none : (n : ℕ) (d : VramDma) → nextByteOf d .answer ≡ None → takenOf n d ≡ nothing d
@@ -39,20 +53,22 @@ pub pairs-none : (d : VramDma) → nextByteOf d .answer ≡ None → pairsOf d �
 unfolding pairsOf
 pairs-none d h = taken-none (d .cursor .quota) d h
 
--- a pair takes one from quota
-fell :
-    (ready moving : Bool) (d : VramDma) (p : BytePair) → ltb 0 (d .cursor .quota) ≡ ready →
-    cond {A = NextByte} (ready && moving) (record { answer = Pair (pairOf (d .cursor)); dma = advancedOf d }) (record { answer = None; dma = d }) .answer ≡ Pair p →
-    d .cursor .quota ≡
-    suc (cond {A = NextByte} (ready && moving) (record { answer = Pair (pairOf (d .cursor)); dma = advancedOf d }) (record { answer = None; dma = d }) .dma .cursor .quota)
-unfolding advancedOf cursorAfter
-fell true true d p e h = let some : 0 < d .cursor .quota = ltb-true _ _ e in omega arith
-fell true false d p e h = cc
-fell false moving d p e h = cc
+pub no-pair : (p : BytePair) → _≡_ {A = NextAnswer} None (Pair p) → ⊥
+no-pair p e = let z : _≡_ {A = ℕ} 0 1 = cc in omega arith
 
+-- a pair is answered by an engine that is ready
+pub is-ready : (d : VramDma) (p : BytePair) → nextByteOf d .answer ≡ Pair p → Ready d
+is-ready d p h = by (movingOf d) refl
+  where
+    by : (b : Bool) → movingOf d ≡ b → Ready d
+    by false m = absurd (no-pair p (sym (ap (λ (x : NextByte). x .answer) (pair-steps .not-moving d m)) ∙ h))
+    by true m =
+        ⊎-elim (λ none. absurd (no-pair p (sym (ap (λ (x : NextByte). x .answer) (pair-steps .no-quota d none)) ∙ h)))
+        (λ some. record { quota = some; moving = m }) (eq-zero-or-pos (d .cursor .quota))
+
+-- and takes one from quota
 pub quota-falls : (d : VramDma) (p : BytePair) → nextByteOf d .answer ≡ Pair p → d .cursor .quota ≡ suc (nextByteOf d .dma .cursor .quota)
-unfolding nextByteOf
-quota-falls d p h = fell (ltb 0 (d .cursor .quota)) (movingOf d) d p refl h
+quota-falls d p h = let fell = pair-steps .moves d (is-ready d p h) .quota in omega (arith, fell)
 
 -- a pair comes first, then what the engine gives after it
 pub pairs-one :
@@ -63,15 +79,36 @@ pairs-one d p h =
     ap (λ (n : ℕ). takenOf n d) (quota-falls d p h) ∙
     ap (λ (a : NextAnswer). afterAnswer d a (takenOf (nextByteOf d .dma .cursor .quota) (nextByteOf d .dma))) h
 
-no-setup : (n : ℕ) (d : VramDma) → takenOf n d .setup ≡ false
-unfolding takenOf
-no-setup zero d = refl
-no-setup (suc n) d = by (nextByteOf d .answer)
+-- what holds of an engine where none comes, and holds of d if it holds of the engine after its first pair, holds of d
+pub by-pairs :
+    (P : VramDma → Taken → Type 0) → ((d : VramDma) → nextByteOf d .answer ≡ None → P d (nothing d)) →
+    ((d : VramDma) (p : BytePair) (t : Taken) → nextByteOf d .answer ≡ Pair p → P (nextByteOf d .dma) t →
+    P d (record { dma = t .dma; pairs = p ∷ t .pairs; setup = false })) →
+    (d : VramDma) → P d (pairsOf d)
+unfolding pairsOf takenOf
+by-pairs P none one d = taken (d .cursor .quota) d refl
   where
-    by : (a : NextAnswer) → afterAnswer d a (takenOf n (nextByteOf d .dma)) .setup ≡ false
-    by (Pair p) = refl
-    by None = refl
+    taken : (n : ℕ) (d : VramDma) → d .cursor .quota ≡ n → P d (takenOf n d)
+    taken zero d q = none d (ap (λ (x : NextByte). x .answer) (pair-steps .no-quota d q))
+    taken (suc n) d q = step (nextByteOf d .answer) refl (λ k. taken n (nextByteOf d .dma) k)
+      where
+        step :
+            (a : NextAnswer) → nextByteOf d .answer ≡ a →
+            (nextByteOf d .dma .cursor .quota ≡ n → P (nextByteOf d .dma) (takenOf n (nextByteOf d .dma))) →
+            P d (afterAnswer d a (takenOf n (nextByteOf d .dma)))
+        step (Pair p) e rest = one d p _ e (rest (let fell = quota-falls d p e in omega arith))
+        step None e rest = none d e
+
+-- a property of engines that each pair keeps, and each set-up cell, is kept by the call
+pub pairs-keep :
+    (P : VramDma → Type 0) → ((d : VramDma) → P d → P (nextByteOf d .dma)) → (d : VramDma) → P d → P (pairsOf d .dma)
+pairs-keep P pair d = by-pairs (λ d t. P d → P (t .dma)) (λ d e k. k) (λ d p t e rest k. rest (pair d k)) d
+
+pub bus-keeps :
+    (P : VramDma → Type 0) → ((d : VramDma) → P d → P (nextByteOf d .dma)) →
+    ((d : VramDma) (cells : Countdown) → P d → P (withCells cells d)) → (i : BusInput) (d : VramDma) → P d → P (busTaken i d .dma)
+bus-keeps P pair cells i d k =
+    each-kind i d (λ (t : Taken). P (t .dma)) (λ h. k) (λ h c. cells d _ k) (λ h c. pairs-keep P pair d k)
 
 pub pairs-no-setup : (d : VramDma) → pairsOf d .setup ≡ false
-unfolding pairsOf
-pairs-no-setup d = no-setup (d .cursor .quota) d
+pairs-no-setup d = by-pairs (λ d t. t .setup ≡ false) (λ d e. refl) (λ d p t e rest. refl) d

@@ -4,7 +4,9 @@
 use mathlib.Core.Path.{_≡_}
 use mathlib.Core.Bool.{Bool, true, false}
 use mathlib.Core.Logic.{_↔_, _⊎_}
+use Rattle.console.specs.Set.{withDmaOam}
 use Rattle.console.specs.declared.vram_dma.VramDma.{VramDma}
+use Rattle.transfer.specs.Keeps.{KeepsMarks}
 use Rattle.transfer.specs.QuestionSteps.{WillMove}
 use Rattle.bus.specs.Arbitration.{arbitratedOf}
 use Rattle.bus.specs.declared.arbitration.Arbitration.the-variants.{Clear, Contended, Stall}
@@ -39,3 +41,5 @@ pub record ArbitrationSteps (double : Bool) (i : ArbitrationInput) (d : VramDma)
   -- what is kept for the bus call: contended, which a stall leaves clear; and OAM DMA's state for the next arbitration
   pub keeps-contended : (arbitratedOf double i d .oam .contended ≡ true) ↔ Contends double i d
   pub keeps-oam : arbitratedOf double i d .oam .«was_transferring» ≡ i .«oam_transferring»
+  -- in the engine after it, which differs in these two alone, the marks that a fall's commit looks at stand as before
+  pub marks : KeepsMarks d (withDmaOam (arbitratedOf double i d .oam) d)

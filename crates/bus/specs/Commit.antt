@@ -54,12 +54,12 @@ setupStands d = activeOf (d .block .«setup_cells»)
 abbrev pub withCells : Countdown → VramDma → VramDma
 withCells cells d = withDmaBlock (withBlockSetupCells cells (d .block)) d
 
+abbrev pub cellTaken : VramDma → Taken
+cellTaken d = record { dma = withCells (ticked (d .block .«setup_cells») .next) d; pairs = []; setup = true }
+
 -- "A bus call neither held nor suspended does nothing. A set-up cell uses up the call. Otherwise pairs are taken"
 unfoldable pub busTaken : BusInput → VramDma → Taken
-busTaken i d =
-    cond (holdsBus i)
-    (cond (setupStands d) (record { dma = withCells (ticked (d .block .«setup_cells») .next) d; pairs = []; setup = true }) (pairsOf d))
-    (nothing d)
+busTaken i d = cond (holdsBus i) (cond (setupStands d) (cellTaken d) (pairsOf d)) (nothing d)
 
 -- the bytes of the pairs
 unfoldable pub bytesOf : Banks → List ℕ → List ℕ → List BytePair → List ℕ

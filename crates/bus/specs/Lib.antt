@@ -5,3 +5,5 @@ pub mod Store
 pub mod Deposit
 pub mod Commit
 pub mod BusSteps
+pub mod MemorySteps
+pub mod DepositSteps

@@ -15,7 +15,7 @@ pub keeps-refl : (d : VramDma) → KeepsMarks d d
 keeps-refl d = record { pend = refl; from-arm = refl; granted = refl; armed = refl; taken = refl }
 
 -- a property of engines that a pair keeps, kept by the call that may take one
-next-keeps : (P : VramDma → Type 0) (d : VramDma) → P d → P (advancedOf d) → P (nextByteOf d .dma)
+pub next-keeps : (P : VramDma → Type 0) (d : VramDma) → P d → P (advancedOf d) → P (nextByteOf d .dma)
 unfolding nextByteOf
 next-keeps P d same moved = by (ltb 0 (d .cursor .quota) && movingOf d)
   where

@@ -1,7 +1,6 @@
 -- `read_source` meets its contract. Assumes nothing.
 use native.Mathlib.Omega.{arith}
-use borrow.Author.Tests.{le-ltb, lt-ltb}
-use Rattle.bus.specs.Source.{sourceByte}
+use Rattle.bus.proofs.MemorySteps.{at-low, at-video, at-high, at-fixed, at-banked, at-upper}
 use borrow.Author.Needs.{needs}
 use Rattle.bus_memory.proofs.source.read_source.Statement.{statement}
 use Rattle.bus_memory.proofs.source.read_source.Tie as tie
@@ -10,12 +9,14 @@ byte-at-requires : tie.Need-byte-at-requires
 byte-at-requires c κs = search needs
 
 returns : tie.Need-returns
-unfolding sourceByte
-returns c = let a = c .before .before .before .before .args .address in rw (lt-ltb a 0x8000 (omega arith), c .byte-at .ensures)
+returns c =
+    let a = c .before .before .before .before .args in
+    rw (at-low (a .video) _ _ (a .svbk) (a .address) (omega arith), c .byte-at .ensures)
 
 returns-2 : tie.Need-returns-2
-unfolding sourceByte
-returns-2 c = let a = c .before .before .before .before .args .address in rw (le-ltb a 0x8000 (omega arith), lt-ltb a 0xA000 (omega arith))
+returns-2 c =
+    let a = c .before .before .before .before .args in
+    rw (at-video (a .video) _ _ (a .svbk) (a .address) (omega arith) (omega arith))
 
 sub-byte-at : tie.Need-sub-byte-at
 sub-byte-at c = search needs
@@ -24,15 +25,17 @@ byte-at-requires-2 : tie.Need-byte-at-requires-2
 byte-at-requires-2 c κs = search needs
 
 returns-3 : tie.Need-returns-3
-unfolding sourceByte
-returns-3 c = let a = c .before .before .before .before .before .before .args .address in rw (le-ltb a 0x8000 (omega arith), le-ltb a 0xA000 (omega arith), lt-ltb a 0xC000 (omega arith), c .byte-at2 .ensures)
+returns-3 c =
+    let a = c .before .before .before .before .before .before .args in
+    rw (at-high (a .video) _ _ (a .svbk) (a .address) (omega arith) (omega arith), c .byte-at2 .ensures)
 
 byte-at-requires-3 : tie.Need-byte-at-requires-3
 byte-at-requires-3 c κs = search needs
 
 returns-4 : tie.Need-returns-4
-unfolding sourceByte
-returns-4 c = let a = c .before .before .before .before .before .before .before .args .address in rw (le-ltb a 0x8000 (omega arith), le-ltb a 0xA000 (omega arith), le-ltb a 0xC000 (omega arith), lt-ltb a 0xD000 (omega arith), c .byte-at3 .ensures)
+returns-4 c =
+    let a = c .before .before .before .before .before .before .before .args in
+    rw (at-fixed (a .video) _ _ (a .svbk) (a .address) (omega arith) (omega arith), c .byte-at3 .ensures)
 
 sub-banked : tie.Need-sub-banked
 sub-banked c = search needs
@@ -44,12 +47,14 @@ byte-at-requires-4 : tie.Need-byte-at-requires-4
 byte-at-requires-4 c κs = search needs
 
 returns-5 : tie.Need-returns-5
-unfolding sourceByte
-returns-5 c = let a = c .before .before .before .before .before .before .before .before .before .args .address in rw (le-ltb a 0x8000 (omega arith), le-ltb a 0xA000 (omega arith), le-ltb a 0xC000 (omega arith), le-ltb a 0xD000 (omega arith), lt-ltb a 0xE000 (omega arith), c .byte-at4 .ensures, c .before .banked .ensures)
+returns-5 c =
+    let a = c .before .before .before .before .before .before .before .before .before .args in
+    rw (at-banked (a .video) _ _ (a .svbk) (a .address) (omega arith) (omega arith), c .byte-at4 .ensures, c .before .banked .ensures)
 
 returns-6 : tie.Need-returns-6
-unfolding sourceByte
-returns-6 c = let a = c .before .before .before .before .before .before .before .args .address in rw (le-ltb a 0x8000 (omega arith), le-ltb a 0xA000 (omega arith), le-ltb a 0xC000 (omega arith), le-ltb a 0xD000 (omega arith), le-ltb a 0xE000 (omega arith))
+returns-6 c =
+    let a = c .before .before .before .before .before .before .before .args in
+    rw (at-upper (a .video) _ _ (a .svbk) (a .address) (omega arith))
 
 pub read-source-spec : {M : Type 1} → statement M
 read-source-spec =
