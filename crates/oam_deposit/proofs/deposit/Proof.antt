@@ -1,8 +1,8 @@
 -- `deposit` meets its contract. Assumes nothing.
 use Rattle.bus.specs.Deposit.{deposited}
 use borrow.Author.Needs.{needs}
-use Rattle.oam_contention.proofs.deposit.deposit.Statement.{statement}
-use Rattle.oam_contention.proofs.deposit.deposit.Tie as tie
+use Rattle.oam_deposit.proofs.deposit.Statement.{statement}
+use Rattle.oam_deposit.proofs.deposit.Tie as tie
 
 returns : tie.Need-returns
 unfolding deposited

@@ -1,7 +1,7 @@
 -- `contends` meets its contract. Assumes nothing.
 use Rattle.bus.specs.Arbitration.{contends}
-use Rattle.oam_contention.proofs.arbitration.contends.Statement.{statement}
-use Rattle.oam_contention.proofs.arbitration.contends.Tie as tie
+use Rattle.oam_arbitration.proofs.contends.Statement.{statement}
+use Rattle.oam_arbitration.proofs.contends.Tie as tie
 
 returns : tie.Need-returns
 unfolding contends

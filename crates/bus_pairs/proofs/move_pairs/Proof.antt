@@ -6,9 +6,9 @@ use mathlib.Core.Path.{_≡_, refl, sym, _∙_}
 use mathlib.Core.List.{[], _∷_}
 use lib.ListN.{length}
 use Rattle.bus.specs.Deposit.{noPair}
-use Rattle.bus_commit.proofs.Loop.{goingOn, quota-falls-at, stops-at, goes-on-at, whole}
-use Rattle.bus_commit.proofs.move_pairs.Statement.{statement}
-use Rattle.bus_commit.proofs.move_pairs.Tie as tie
+use Rattle.bus_pairs.proofs.Loop.{goingOn, quota-falls-at, stops-at, goes-on-at, whole}
+use Rattle.bus_pairs.proofs.move_pairs.Statement.{statement}
+use Rattle.bus_pairs.proofs.move_pairs.Tie as tie
 
 abbrev Inv-loop : tie.InvT-loop
 Inv-loop banks cartridge wram vram₀ dma₀ pairs₀ bytes₀ moved₀ vram dma pairs bytes moved =

@@ -1,7 +1,7 @@
 -- `stalls` meets its contract. Assumes nothing.
 use Rattle.bus.specs.Arbitration.{stalls}
-use Rattle.oam_contention.proofs.arbitration.stalls.Statement.{statement}
-use Rattle.oam_contention.proofs.arbitration.stalls.Tie as tie
+use Rattle.oam_arbitration.proofs.stalls.Statement.{statement}
+use Rattle.oam_arbitration.proofs.stalls.Tie as tie
 
 returns : tie.Need-returns
 unfolding stalls

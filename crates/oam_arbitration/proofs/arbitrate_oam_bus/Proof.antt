@@ -1,7 +1,7 @@
 -- `arbitrate_oam_bus` meets its contract. Assumes nothing.
 use Rattle.bus.specs.Arbitration.{arbitratedOf}
-use Rattle.oam_contention.proofs.arbitration.arbitrate_oam_bus.Statement.{statement}
-use Rattle.oam_contention.proofs.arbitration.arbitrate_oam_bus.Tie as tie
+use Rattle.oam_arbitration.proofs.arbitrate_oam_bus.Statement.{statement}
+use Rattle.oam_arbitration.proofs.arbitrate_oam_bus.Tie as tie
 
 returns : tie.Need-returns
 unfolding arbitratedOf

@@ -4,8 +4,8 @@ use lib.Seq.{set-out}
 use lib.ListN.{length}
 use Prim.Native.Nat.{_≤_}
 use borrow.Author.Needs.{needs}
-use Rattle.bus_commit.proofs.keep_byte.Statement.{statement}
-use Rattle.bus_commit.proofs.keep_byte.Tie as tie
+use Rattle.bus_pairs.proofs.keep_byte.Statement.{statement}
+use Rattle.bus_pairs.proofs.keep_byte.Tie as tie
 
 array-write-bytes : tie.Need-array-write-bytes
 array-write-bytes c = search needs

@@ -1,7 +1,7 @@
 -- `verdict` meets its contract. Assumes nothing.
 use Rattle.bus.specs.Arbitration.{arbitrationOf}
-use Rattle.oam_contention.proofs.arbitration.verdict.Statement.{statement}
-use Rattle.oam_contention.proofs.arbitration.verdict.Tie as tie
+use Rattle.oam_arbitration.proofs.verdict.Statement.{statement}
+use Rattle.oam_arbitration.proofs.verdict.Tie as tie
 
 returns : tie.Need-returns
 unfolding arbitrationOf

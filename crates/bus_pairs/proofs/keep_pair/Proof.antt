@@ -4,8 +4,8 @@ use lib.Seq.{set-out}
 use lib.ListN.{length}
 use Prim.Native.Nat.{_≤_}
 use borrow.Author.Needs.{needs}
-use Rattle.bus_commit.proofs.keep_pair.Statement.{statement}
-use Rattle.bus_commit.proofs.keep_pair.Tie as tie
+use Rattle.bus_pairs.proofs.keep_pair.Statement.{statement}
+use Rattle.bus_pairs.proofs.keep_pair.Tie as tie
 
 mul-pairs : tie.Need-mul-pairs
 mul-pairs c = search needs

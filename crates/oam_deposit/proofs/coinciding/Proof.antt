@@ -1,7 +1,7 @@
 -- `coinciding` meets its contract. Assumes nothing.
 use native.Mathlib.Omega.{arith}
-use Rattle.oam_contention.proofs.deposit.coinciding.Statement.{statement}
-use Rattle.oam_contention.proofs.deposit.coinciding.Tie as tie
+use Rattle.oam_deposit.proofs.coinciding.Statement.{statement}
+use Rattle.oam_deposit.proofs.coinciding.Tie as tie
 
 returns : tie.Need-returns
 returns c = record { is = rw (c .if1 .taken); bound = omega arith }
