@@ -87,4 +87,6 @@ module _ (banks : Banks) (cartridge wram : List ℕ) where
 
   pub whole : (d : VramDma) (vram : List ℕ) → goingOn d 0 (noPair ∷ noPair ∷ []) (0 ∷ 0 ∷ []) vram ≡ loopOf banks cartridge wram d vram
   unfolding goingOn loopOf runOf
-  whole d vram = rw (pairs-no-setup d, from-none (length (pairsOf d .pairs)), filled-two noPair (pairsOf d .pairs), filled-two 0 (bytesOf banks cartridge wram (pairsOf d .pairs)))
+  whole d vram =
+      let bytes : List ℕ = bytesOf banks cartridge wram (pairsOf d .pairs) in
+      rw (pairs-no-setup d, from-none (length (pairsOf d .pairs)), filled-two noPair (pairsOf d .pairs), filled-two 0 bytes)

@@ -25,7 +25,7 @@ next-keeps P d same moved = by (ltb 0 (d .cursor .quota) && movingOf d)
     by true = moved
     by false = same
 
-drain-keeps : (P : VramDma → Type 0) (d : VramDma) → P d → P (withQuota 1 d) → P (advancedOf (withQuota 1 d)) → P (drainOf d .dma)
+pub drain-keeps : (P : VramDma → Type 0) (d : VramDma) → P d → P (withQuota 1 d) → P (advancedOf (withQuota 1 d)) → P (drainOf d .dma)
 unfolding drainOf
 drain-keeps P d same one moved = by (d .cursor .«escape_byte» && movingOf d)
   where

@@ -1,16 +1,15 @@
 -- The pair, the escape drain, LCD off and instruction retired keep what refusal 7 tests of the engine. Assumes nothing.
 use Prim.Native.Nat.{ℕ, _-_, _≤_}
 use native.Mathlib.Omega.{arith}
-use mathlib.Core.Bool.{Bool, true, false, cond, _&&_}
-use lib.Dec.{ltb, eqb, lit≤}
+use mathlib.Core.Bool.{Bool, true, false, cond}
+use lib.Dec.{eqb, lit≤}
 use borrow.Author.Tests.{eq-eqb}
 use Rattle.console.specs.Reached.{Sound}
 use Rattle.console.specs.declared.vram_dma.TransferCursor.{TransferCursor}
 use Rattle.console.specs.declared.vram_dma.VramDma.{VramDma}
 use Rattle.transfer.specs.Latch.{latchedBlock, latchedOf, unclaimed, latchesDark, lcdDisabledOf, retiredOf}
-use Rattle.transfer.specs.Pair.{movingOf, leftAfter, cursorAfter, blockAfter, advancedOf, pairOf, nextByteOf, withQuota, drainOf}
-use Rattle.transfer.specs.declared.pair.NextAnswer.the-variants.{Pair, None}
-use Rattle.transfer.specs.declared.pair.NextByte.{NextByte}
+use Rattle.transfer.specs.Pair.{leftAfter, cursorAfter, blockAfter, advancedOf, nextByteOf, withQuota, drainOf}
+use Rattle.transfer.proofs.Keeps.{next-keeps, drain-keeps}
 use Rattle.transfer.proofs.PairSteps.{block-falls}
 
 either : (b : Bool) (x y n : ℕ) → x ≤ n → y ≤ n → cond b x y ≤ n
@@ -33,20 +32,13 @@ advanced d k =
     }
 
 pub next-sound : (d : VramDma) → Sound d → Sound (nextByteOf d .dma)
-unfolding nextByteOf
-next-sound d k = by (ltb 0 (d .cursor .quota) && movingOf d)
-  where
-    by : (b : Bool) → Sound (cond {A = NextByte} b (record { answer = Pair (pairOf (d .cursor)); dma = advancedOf d }) (record { answer = None; dma = d }) .dma)
-    by true = advanced d k
-    by false = k
+next-sound d k = next-keeps Sound d k (advanced d k)
 
 pub drain-sound : (d : VramDma) → Sound d → Sound (drainOf d .dma)
-unfolding drainOf
-drain-sound d k = by (d .cursor .«escape_byte» && movingOf d)
+drain-sound d k = drain-keeps Sound d k one (advanced (withQuota 1 d) one)
   where
-    by : (b : Bool) → Sound (cond {A = NextByte} b (nextByteOf (withQuota 1 d)) (record { answer = None; dma = d }) .dma)
-    by true = next-sound (withQuota 1 d) (record { quota = lit≤ tt; block = k .block; left = k .left; idle = k .idle })
-    by false = k
+    one : Sound (withQuota 1 d)
+    one = record { quota = lit≤ tt; block = k .block; left = k .left; idle = k .idle }
 
 pub lcd-sound : (d : VramDma) → Sound d → Sound (lcdDisabledOf d)
 unfolding lcdDisabledOf latchedOf latchedBlock

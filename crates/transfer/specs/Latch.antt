@@ -4,7 +4,8 @@ use mathlib.Core.Bool.{Bool, true, false, cond, not, _&&_}
 use lib.Dec.{ltb, eqb}
 use Rattle.countdown.specs.Countdown.{armed, cleared}
 use Rattle.console.specs.Modes.{isHBlank}
-use Rattle.console.specs.Set.{withBlockRemaining, withBlockSetupCells, withBlockReadyIn, withArbPendFromArm, withArbIdleClaim, withArbParkWaitsForFetch, withDmaBlock, withDmaArb}
+use Rattle.console.specs.Set.{withBlockRemaining, withBlockSetupCells, withBlockReadyIn, withDmaBlock, withDmaArb}
+use Rattle.console.specs.Set.{withArbPendFromArm, withArbIdleClaim, withArbParkWaitsForFetch}
 use Rattle.console.specs.declared.vram_dma.HblankBlock.{HblankBlock}
 use Rattle.console.specs.declared.vram_dma.VramDma.{VramDma}
 

@@ -4,7 +4,9 @@ use mathlib.Core.Bool.{Bool, false, cond, not, _&&_, _||_}
 use lib.Dec.{ltb, eqb}
 use Rattle.countdown.specs.Countdown.{activeOf}
 use Rattle.console.specs.Modes.{isGeneral}
-use Rattle.console.specs.Set.{withCursorSource, withCursorDest, withCursorMode, withCursorRemaining, withCursorQuota, withCursorEscapeByte, withBlockRemaining, withBlockFromArm, withArbGrantedAhead, withArbParkWaitsForFetch, withArbIdleClaim, withDmaCursor, withDmaBlock, withDmaArb}
+use Rattle.console.specs.Set.{withCursorSource, withCursorDest, withCursorMode, withCursorRemaining, withCursorQuota, withCursorEscapeByte}
+use Rattle.console.specs.Set.{withBlockRemaining, withBlockFromArm, withArbGrantedAhead, withArbParkWaitsForFetch, withArbIdleClaim}
+use Rattle.console.specs.Set.{withDmaCursor, withDmaBlock, withDmaArb}
 use Rattle.console.specs.declared.vram_dma.HaltArbiter.{HaltArbiter}
 use Rattle.console.specs.declared.vram_dma.HblankBlock.{HblankBlock}
 use Rattle.console.specs.declared.vram_dma.TransferCursor.{TransferCursor}

@@ -2,7 +2,8 @@
 use Prim.Native.Nat.{_+_, _-_, _%_, _<_}
 use mathlib.Core.Path.{_≡_}
 use mathlib.Core.Bool.{true, false}
-use Rattle.console.specs.Set.{withBlockRemaining, withBlockFromArm, withArbGrantedAhead, withArbParkWaitsForFetch, withArbIdleClaim, withDmaCursor, withDmaBlock, withDmaArb}
+use Rattle.console.specs.Set.{withBlockRemaining, withBlockFromArm, withArbGrantedAhead, withArbParkWaitsForFetch, withArbIdleClaim}
+use Rattle.console.specs.Set.{withDmaCursor, withDmaBlock, withDmaArb}
 use Rattle.console.specs.declared.vram_dma.TransferMode.the-variants as mode
 use Rattle.console.specs.declared.vram_dma.VramDma.{VramDma}
 use Rattle.transfer.specs.Pair.{movingOf, pairOf, nextByteOf, withQuota, drainOf}
@@ -29,7 +30,9 @@ pub record Moved (d e : VramDma) : Type 0 where
       (e .arb .«granted_ahead» ≡ d .arb .«granted_ahead» - 1) × (e .block .«from_arm» ≡ false) × (e .arb .«park_waits_for_fetch» ≡ false)
   pub not-last :
       (d .block .remaining ≡ 1 → ⊥) →
-      (e .arb .«granted_ahead» ≡ d .arb .«granted_ahead») × (e .block .«from_arm» ≡ d .block .«from_arm») × (e .arb .«park_waits_for_fetch» ≡ d .arb .«park_waits_for_fetch»)
+      (e .arb .«granted_ahead» ≡ d .arb .«granted_ahead») ×
+      (e .block .«from_arm» ≡ d .block .«from_arm») ×
+      (e .arb .«park_waits_for_fetch» ≡ d .arb .«park_waits_for_fetch»)
   -- "Source wraps"
   pub source : e .cursor .source ≡ (d .cursor .source + 1) % 65536
   -- "Destination leaving FFFFh becomes 0 and left becomes 0; what remains of the block stays"

@@ -17,7 +17,12 @@ setup-requires : tie.Need-setup-requires
 setup-requires c κs = search needs
 
 returns-2 : tie.Need-returns-2
-returns-2 c = let a = c .before .before .before .before .before .before .before .before .before .before .args in committed-cell (a .banks) (a .i) (a .d) _ _ _ _ _ (c .before .before .before .tick .result) (c .before .before .before .before .if1 .left) (c .before .before .before .tick .ensures) (c .before .before .if2 .taken) (c .setup .ensures)
+returns-2 c =
+    let ticked = c .before .before .before in
+    let held = ticked .before in
+    let a = held .before .before .before .before .before .before .args in
+    committed-cell (a .banks) (a .i) (a .d) _ _ _ _ _ (ticked .tick .result) (held .if1 .left) (ticked .tick .ensures) (c .before .before .if2 .taken)
+    (c .setup .ensures)
 
 move-pairs-requires : tie.Need-move-pairs-requires
 move-pairs-requires c κs = search needs
@@ -35,7 +40,14 @@ same-length-2 : tie.Need-same-length-2
 same-length-2 c = search needs
 
 returns-3 : tie.Need-returns-3
-returns-3 c = let a = c .before .before .before .before .before .before .before .before .before .before .before .before .before .before .before .before .before .before .before .args in committed-pairs (a .banks) (a .i) (a .d) _ _ _ _ (c .before .before .before .before .before .before .before .before .before .move-pairs .result) (c .before .before .before .before .before .before .before .before .before .before .before .before .tick .result) (c .before .before .before .before .phase .result) _ _ (c .before .before .before .before .before .before .before .before .before .before .before .before .before .if1 .left) (c .before .before .before .before .before .before .before .before .before .before .before .before .tick .ensures) (c .before .before .before .before .before .before .before .before .before .before .before .if2 .left) (c .before .before .before .before .before .before .before .before .before .move-pairs .ensures) (c .before .before .before .before .phase .ensures) (c .before .before .deposit .ensures)
+returns-3 c =
+    let aligned = c .before .before .before .before in
+    let moved = aligned .before .before .before .before .before in
+    let ticked = moved .before .before .before in
+    let held = ticked .before in
+    let a = held .before .before .before .before .before .before .args in
+    committed-pairs (a .banks) (a .i) (a .d) _ _ _ _ (moved .move-pairs .result) (ticked .tick .result) (aligned .phase .result) _ _ (held .if1 .left)
+    (ticked .tick .ensures) (moved .before .before .if2 .left) (moved .move-pairs .ensures) (aligned .phase .ensures) (c .before .before .deposit .ensures)
 
 pub commit-bytes-spec : {M : Type 1} → statement M
 commit-bytes-spec =

@@ -43,29 +43,38 @@ keep-pair-requires c κs = search needs
 keep-byte-requires : tie.Need-keep-byte-requires Inv-loop μ-loop
 keep-byte-requires c κs = search needs
 
+-- a pair came, so that quota fell
 falls :
     (c : tie.After-keep-byte Inv-loop μ-loop) →
-    c .before .before .before .before .before .before .before .before .before .before .before .before .loop .dma .cursor .quota ≡ suc (c .before .before .before .before .before .before .before .before .before .before .before .next-byte .result .dma .cursor .quota)
+    (let came = c .before .before .before .before .before .before .before .before .before .before .before in
+    came .before .loop .dma .cursor .quota ≡ suc (came .next-byte .result .dma .cursor .quota))
 falls c =
-    let n = c .before .before .before .before .before .before .before .before .before .before .before .next-byte in
-    quota-falls-at _ (n .result) _ (n .ensures) (c .before .before .before .before .before .before .before .before .before .answer .given .1)
+    let pair = c .before .before .before .before .before .before .before .before .before in
+    quota-falls-at _ (pair .before .before .next-byte .result) _ (pair .before .before .next-byte .ensures) (pair .answer .given .1)
 
 add-moved : tie.Need-add-moved Inv-loop μ-loop
-add-moved c = let f = falls c in let i = c .before .before .before .before .before .before .before .before .before .before .before .before .loop .inv .1 in omega arith
+add-moved c =
+    let came = c .before .before .before .before .before .before .before .before .before .before .before in
+    let f = falls c in
+    let i = came .before .loop .inv .1 in
+    omega arith
 
 loop-less : tie.Need-loop-less Inv-loop μ-loop
 loop-less c = let f = falls c in omega arith
 
 loop-again : tie.Need-loop-again Inv-loop μ-loop
 loop-again c =
-    let l = c .before .before .before .before .before .before .before .before .before .before .before .before .loop in
-    let n = c .before .before .before .before .before .before .before .before .before .before .before .next-byte in
+    let stored = c .before .before .before .before in
+    let read = stored .before .before in
+    let pair = read .before .before .before in
+    let n = pair .before .before .next-byte in
+    let l = pair .before .before .before .loop in
     let f = falls c in
     let i = l .inv .1 in (
       search needs,
       omega arith,
-      goes-on-at _ _ _ (l .dma) (n .result) (l .moved) _ _ _ _ _ _ _ _ (n .ensures) (c .before .before .before .before .before .before .before .before .before .answer .given .1)
-          (c .before .before .before .before .before .before .read-hdma-source .ensures) (c .before .before .before .before .commit-vram .ensures) (c .before .keep-pair .ensures) (c .keep-byte .ensures)
+      goes-on-at _ _ _ (l .dma) (n .result) (l .moved) _ _ _ _ _ _ _ _ (n .ensures) (pair .answer .given .1) (read .read-hdma-source .ensures)
+          (stored .commit-vram .ensures) (c .before .keep-pair .ensures) (c .keep-byte .ensures)
           ∙ l .inv .2,
     )
 

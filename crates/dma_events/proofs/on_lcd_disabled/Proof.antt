@@ -5,7 +5,9 @@ use Rattle.dma_events.proofs.on_lcd_disabled.Tie as tie
 
 returns : tie.Need-returns
 unfolding lcdDisabledOf
-returns c = rw (← c .before .before .before .drop-idle-claim .ensures, ← c .before .before .latches-dark .ensures, c .before .if1 .taken, c .latch-block .ensures)
+returns c =
+    let dark = c .before .before in
+    rw (← dark .before .drop-idle-claim .ensures, ← dark .latches-dark .ensures, c .before .if1 .taken, c .latch-block .ensures)
 
 returns-2 : tie.Need-returns-2
 unfolding lcdDisabledOf

@@ -12,11 +12,15 @@ enum-told c = search needs
 
 returns : tie.Need-returns
 unfolding drainOf
-returns c = rw (← c .before .before .before .before .before .before .before .moving .ensures, c .before .before .before .before .before .if1 .taken, ← c .before .before .before .next-byte .ensures, ← c .enum-told .given .1)
+returns c =
+    let owed = c .before .before .before .before .before in
+    rw (← owed .before .before .moving .ensures, owed .if1 .taken, ← c .before .before .before .next-byte .ensures, ← c .enum-told .given .1)
 
 returns-2 : tie.Need-returns-2
 unfolding drainOf
-returns-2 c = rw (← c .before .before .before .before .before .before .before .before .moving .ensures, c .before .before .before .before .before .before .if1 .taken, ← c .before .before .before .before .next-byte .ensures, ← c .before .answer .given .1)
+returns-2 c =
+    let owed = c .before .before .before .before .before .before in
+    rw (← owed .before .before .moving .ensures, owed .if1 .taken, ← c .before .before .before .before .next-byte .ensures, ← c .before .answer .given .1)
 
 returns-3 : tie.Need-returns-3
 unfolding drainOf

@@ -31,7 +31,9 @@ same-length c = search needs
 
 returns-2 : tie.Need-returns-2
 unfolding deposited
-returns-2 c = rw (c .before .before .before .before .before .before .before .if1 .left, ← c .before .before .before .before .before .before .coinciding .ensures .is, c .before .before .commit-oam .ensures) (cc)
+returns-2 c =
+    let at = c .before .before .before .before .before .before in
+    rw (at .before .if1 .left, ← at .coinciding .ensures .is, c .before .before .commit-oam .ensures) (cc)
 
 pub deposit-spec : {M : Type 1} → statement M
 deposit-spec =

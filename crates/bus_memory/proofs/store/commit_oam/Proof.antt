@@ -23,7 +23,9 @@ same-length c = search needs
 
 returns-2 : tie.Need-returns-2
 unfolding oamWith
-returns-2 c = rw (le-leb _ _ (c .before .before .before .before .before .if1 .left), c .before .before .put-at .ensures, c .before .before .before .before .saturating-sub16 .ensures)
+returns-2 c =
+    let within = c .before .before .before .before in
+    rw (le-leb _ _ (within .before .if1 .left), c .before .before .put-at .ensures, within .saturating-sub16 .ensures)
 
 pub commit-oam-spec : {M : Type 1} → statement M
 commit-oam-spec =
