@@ -8,6 +8,7 @@ use lib.Dec.{eqb}
 use Rattle.console.specs.Reached.{unreached}
 use Rattle.console.specs.Refusals.{_⇒_, firstOf, answered}
 use Rattle.console.specs.declared.Cgb.{Cgb}
+use Rattle.console.specs.declared.VramDmaClaim.{VramDmaClaim}
 use Rattle.transfer.specs.declared.VramDmaStatus.{VramDmaStatus}
 use Rattle.transfer.specs.declared.VramDmaStatus.the-variants as dma
 use Rattle.answers.specs.declared.ByteAnswer.{ByteAnswer}
@@ -38,7 +39,7 @@ use Rattle.answers.specs.declared.Handed.{Handed}
 use Rattle.answers.specs.declared.Fell.{Fell}
 use Rattle.answers.specs.declared.Switched.{Switched}
 use Rattle.answers.specs.declared.Arbitrated.{Arbitrated}
-use Rattle.answers.specs.declared.Bussed.{Bussed}
+use Rattle.answers.specs.declared.BusOutcome.{BusOutcome}
 
 -- the number of a declined call, 0 where it is accepted, and the values that an accepted call gives
 pub record Said : Type 0 where
@@ -141,8 +142,8 @@ switchedSays r = switchSays (r .answer)
 abbrev pub arbitratedSays : Arbitrated → Said
 arbitratedSays r = arbitrationSays (r .answer)
 
-abbrev pub bussedSays : Bussed → Said
-bussedSays r = busSays (r .answer)
+abbrev pub busOutcomeSays : BusOutcome → Said
+busOutcomeSays r = busSays (r .answer)
 
 -- the state after a call: as before where it has a number
 abbrev pub kept : ℕ → Cgb → Cgb → Cgb
@@ -164,3 +165,14 @@ byteAnswer number value = answered number byte.Refused (byte.Byte value)
 -- the answer with a number, or done where there is none
 abbrev pub doneAnswer : ℕ → DoneAnswer
 doneAnswer number = answered number done.Refused done.Done
+
+-- the answer with a number, or with the flag where there is none
+abbrev pub flagAnswer : ℕ → Bool → FlagAnswer
+flagAnswer number value = answered number flag.Refused (flag.Flag value)
+
+-- a claim as an answer, and the answer with a number, or with the claim where there is none
+abbrev pub claimed : VramDmaClaim → ClaimAnswer
+claimed c = claim.Claim (c .committed) (c .standing)
+
+abbrev pub claimAnswer : ℕ → VramDmaClaim → ClaimAnswer
+claimAnswer number c = answered number claim.Refused (claimed c)

@@ -107,7 +107,7 @@ pub struct Arbitrated {
 }
 
 // Of the arrays the first `count` places are used, the others are 0.
-pub struct Bussed {
+pub struct BusOutcome {
     pub answer: BusAnswer,
     pub pairs: [BytePair; 2],
     pub bytes: [u8; 2],

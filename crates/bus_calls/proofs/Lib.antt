@@ -1,6 +1,4 @@
-pub mod Accepted
 pub mod Says
-pub mod Bused
-pub mod AccessSteps
+pub mod BusCalls
 pub mod SharedBusSteps
 pub mod BusCallSteps

@@ -1,17 +1,53 @@
--- What each answer says is what the part below it said. Assumes nothing.
+-- What arbitration, the write conflict and the bus call say. Assumes nothing.
+use Prim.Native.Nat.{ℕ}
 use mathlib.Core.Path.{_≡_, refl}
+use mathlib.Core.List.{List}
+use lib.ListN.{length}
+use Rattle.console.specs.declared.Cgb.{Cgb}
 use Rattle.bus.specs.declared.arbitration.Arbitration.{Arbitration}
 use Rattle.bus.specs.declared.arbitration.Arbitration.the-variants as bus
+use Rattle.bus.specs.declared.arbitration.ArbitrationInput.{ArbitrationInput}
+use Rattle.bus.specs.declared.commit.BusInput.{BusInput}
+use Rattle.transfer.specs.Conflict.{conflictOf}
 use Rattle.transfer.specs.declared.Conflict.{Conflict}
 use Rattle.transfer.specs.declared.Conflict.the-variants as found
-use Rattle.answers.specs.Answers.{accepted, arbitrationSays, conflictSays}
-use Rattle.bus_calls.specs.Bus.{arbitrationAnswerOf, arbitrationValues, conflictAnswerOf, conflictValues}
+use Rattle.answers.specs.Answers.{accepted, stateRefusal, arbitrationSays, arbitratedSays, conflictSays, busSays, busOutcomeSays}
+use Rattle.answers.specs.declared.ArbitrationAnswer.the-variants as arbitration
+use Rattle.answers.specs.declared.BusAnswer.the-variants as moved
+use Rattle.answers.specs.declared.ConflictAnswer.the-variants as conflict
+use Rattle.answers.proofs.Numbers.{told}
+use Rattle.bus_calls.specs.Bus.{arbitrationAnswerOf, arbitrated, arbitrationCallOf, arbitrationSaid, conflictAnswerOf, conflictCallOf, conflictSaid}
+use Rattle.bus_calls.specs.BusCall.{lengthsOf, busRefusal, takenIn, busAnswer, busSaid, busOf}
 
-pub arbitration-said : (a : Arbitration) → arbitrationSays (arbitrationAnswerOf a) ≡ accepted (arbitrationValues a)
+-- what the parts below answer is accepted
+pub arbitration-said :
+    (a : Arbitration) → arbitrationSays (arbitrationAnswerOf a) ≡ accepted (arbitrationSays (arbitrationAnswerOf a) .values)
 arbitration-said bus.Clear = refl
 arbitration-said bus.Contended = refl
 arbitration-said bus.Stall = refl
 
-pub conflict-said : (c : Conflict) → conflictSays (conflictAnswerOf c) ≡ accepted (conflictValues c)
+pub conflict-said : (c : Conflict) → conflictSays (conflictAnswerOf c) ≡ accepted (conflictSays (conflictAnswerOf c) .values)
 conflict-said (found.Source source) = refl
 conflict-said found.None = refl
+
+module _ (s : Cgb) where
+  pub arbitrate-told : (i : ArbitrationInput) → arbitratedSays (arbitrationCallOf s i) ≡ arbitrationSaid s i
+  unfolding arbitrationCallOf arbitrationSaid
+  arbitrate-told i =
+      let a = arbitrated s i .answer in
+      told arbitrationSays arbitration.Refused (arbitrationAnswerOf a) _ (λ k. refl) (arbitration-said a) (stateRefusal s)
+
+  pub conflict-told : (a : ℕ) → conflictSays (conflictCallOf s a) ≡ conflictSaid s a
+  unfolding conflictCallOf conflictSaid
+  conflict-told a =
+      let c = conflictOf (s .«double_speed») a (s .«vram_dma») in
+      told conflictSays conflict.Refused (conflictAnswerOf c) _ (λ k. refl) (conflict-said c) (stateRefusal s)
+
+  pub bus-told :
+      (i : BusInput) (cartridge wram vram oam : List ℕ) →
+      busOutcomeSays (busOf s i cartridge wram vram oam) ≡ busSaid s i (lengthsOf cartridge wram vram oam)
+  unfolding busOf busAnswer busSaid
+  bus-told i cartridge wram vram oam =
+      let t = takenIn s i in
+      told busSays moved.Refused (moved.Moved (length (t .pairs)) (t .setup)) _ (λ k. refl) refl
+      (busRefusal s (lengthsOf cartridge wram vram oam))

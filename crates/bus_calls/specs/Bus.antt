@@ -1,6 +1,5 @@
 -- Arbitration and the write conflict as calls (document 01, sections 3 and 4).
 use Prim.Native.Nat.{ℕ}
-use mathlib.Core.List.{List, [], _∷_}
 use Rattle.console.specs.Refusals.{answered}
 use Rattle.console.specs.Set.{withVramDma, withDmaOam}
 use Rattle.console.specs.declared.Cgb.{Cgb}
@@ -12,7 +11,7 @@ use Rattle.bus.specs.declared.arbitration.ArbitrationInput.{ArbitrationInput}
 use Rattle.transfer.specs.Conflict.{conflictOf}
 use Rattle.transfer.specs.declared.Conflict.{Conflict}
 use Rattle.transfer.specs.declared.Conflict.the-variants as found
-use Rattle.answers.specs.Answers.{Said, saying, kept, stateRefusal}
+use Rattle.answers.specs.Answers.{Said, saying, kept, stateRefusal, arbitrationSays, conflictSays}
 use Rattle.answers.specs.declared.Arbitrated.{Arbitrated}
 use Rattle.answers.specs.declared.ArbitrationAnswer.{ArbitrationAnswer}
 use Rattle.answers.specs.declared.ArbitrationAnswer.the-variants as arbitration
@@ -23,11 +22,6 @@ abbrev pub arbitrationAnswerOf : Arbitration → ArbitrationAnswer
 arbitrationAnswerOf bus.Clear = arbitration.Clear
 arbitrationAnswerOf bus.Contended = arbitration.Contended
 arbitrationAnswerOf bus.Stall = arbitration.Stall
-
-abbrev pub arbitrationValues : Arbitration → List ℕ
-arbitrationValues bus.Clear = 0 ∷ []
-arbitrationValues bus.Contended = 1 ∷ []
-arbitrationValues bus.Stall = 2 ∷ []
 
 abbrev pub arbitrated : Cgb → ArbitrationInput → part.Arbitrated
 arbitrated s i = arbitratedOf (s .«double_speed») i (s .«vram_dma»)
@@ -40,19 +34,16 @@ arbitrationCallOf s i =
     }
 
 unfoldable pub arbitrationSaid : Cgb → ArbitrationInput → Said
-arbitrationSaid s i = saying (stateRefusal s) (arbitrationValues (arbitrated s i .answer))
+arbitrationSaid s i = saying (stateRefusal s) (arbitrationSays (arbitrationAnswerOf (arbitrated s i .answer)) .values)
 
 abbrev pub conflictAnswerOf : Conflict → ConflictAnswer
 conflictAnswerOf (found.Source source) = conflict.Source source
 conflictAnswerOf found.None = conflict.None
-
-abbrev pub conflictValues : Conflict → List ℕ
-conflictValues (found.Source source) = 1 ∷ source ∷ []
-conflictValues found.None = 0 ∷ []
 
 unfoldable pub conflictCallOf : Cgb → ℕ → ConflictAnswer
 conflictCallOf s a =
     answered (stateRefusal s) conflict.Refused (conflictAnswerOf (conflictOf (s .«double_speed») a (s .«vram_dma»)))
 
 unfoldable pub conflictSaid : Cgb → ℕ → Said
-conflictSaid s a = saying (stateRefusal s) (conflictValues (conflictOf (s .«double_speed») a (s .«vram_dma»)))
+conflictSaid s a =
+    saying (stateRefusal s) (conflictSays (conflictAnswerOf (conflictOf (s .«double_speed») a (s .«vram_dma»))) .values)

@@ -16,10 +16,10 @@ use Rattle.bus.specs.Deposit.{noPair}
 use Rattle.bus.specs.declared.commit.Banks.{Banks}
 use Rattle.bus.specs.declared.commit.BusInput.{BusInput}
 use Rattle.transfer.specs.declared.pair.BytePair.{BytePair}
-use Rattle.answers.specs.Answers.{Said, saying, bitOf, kept, bussedSays}
+use Rattle.answers.specs.Answers.{Said, saying, bitOf, kept, busOutcomeSays}
 use Rattle.answers.specs.declared.BusAnswer.{BusAnswer}
 use Rattle.answers.specs.declared.BusAnswer.the-variants.{Moved, Refused}
-use Rattle.answers.specs.declared.Bussed.{Bussed}
+use Rattle.answers.specs.declared.BusOutcome.{BusOutcome}
 
 -- the four lengths of lent memory
 pub record Lengths : Type 0 where
@@ -75,7 +75,7 @@ busOam s i n cartridge wram oam =
     cond (eqb (busRefusal s n) 0) (oamAfter (banksOf s) i cartridge wram (s .«vram_dma») (takenIn s i .pairs) oam) oam
 
 -- the result: pairs and bytes in arrays of two, the spare places 0
-unfoldable pub busOf : Cgb → BusInput → List ℕ → List ℕ → List ℕ → List ℕ → Bussed
+unfoldable pub busOf : Cgb → BusInput → List ℕ → List ℕ → List ℕ → List ℕ → BusOutcome
 busOf s i cartridge wram vram oam =
     let n = lengthsOf cartridge wram vram oam in
     record {
@@ -85,13 +85,13 @@ busOf s i cartridge wram vram oam =
       state = busState s i n;
     }
 
-abbrev pub refusedBus : ℕ → Cgb → Bussed
+abbrev pub refusedBus : ℕ → Cgb → BusOutcome
 refusedBus number s =
     record { answer = Refused number; pairs = noPair ∷ noPair ∷ []; bytes = 0 ∷ 0 ∷ []; state = s }
 
 -- the whole outcome of a bus call: result, what its answer says, VRAM and OAM at exit
-pub record Bused (s : Cgb) (i : BusInput) (cartridge wram vram oam : List ℕ) (r : Bussed) (lastVram lastOam : List ℕ) : Type 0 where
+pub record AnswersBus (s : Cgb) (i : BusInput) (cartridge wram vram oam : List ℕ) (r : BusOutcome) (lastVram lastOam : List ℕ) : Type 0 where
   pub result : r ≡ busOf s i cartridge wram vram oam
-  pub says : bussedSays r ≡ busSaid s i (lengthsOf cartridge wram vram oam)
+  pub says : busOutcomeSays r ≡ busSaid s i (lengthsOf cartridge wram vram oam)
   pub stored : lastVram ≡ busVram s i (lengthsOf cartridge wram vram oam) cartridge wram vram
   pub deposit : lastOam ≡ busOam s i (lengthsOf cartridge wram vram oam) cartridge wram oam

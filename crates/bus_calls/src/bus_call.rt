@@ -1,8 +1,8 @@
 // The bus call (vram_dma.rs, `vram_dma_commit_bytes`): the bytes that the engine moves in an M-cycle.
-ghost use Rattle.bus_calls.specs.BusCall.{wrongLengths, refusedBus, Bused};
+ghost use Rattle.bus_calls.specs.BusCall.{wrongLengths, refusedBus, AnswersBus};
 ghost use mathlib.Core.Path.{_≡_};
 use answers::BusAnswer;
-use answers::Bussed;
+use answers::BusOutcome;
 use bus::commit::Banks;
 use bus::commit::BusInput;
 use console::Cgb;
@@ -10,10 +10,10 @@ use console::refusal;
 use console::same;
 use transfer::pair::BytePair;
 
-fn refused(state: Cgb, number: u8) -> Bussed
+fn refused(state: Cgb, number: u8) -> BusOutcome
     ensures { λ r. ⌜ r ≡ refusedBus number state ⌝ }
 {
-    Bussed {
+    BusOutcome {
         answer: BusAnswer::Refused(number),
         pairs: [BytePair { source: 0, dest: 0 }; 2],
         bytes: [0u8; 2],
@@ -38,8 +38,8 @@ pub fn vram_dma_commit_bytes(
     wram: &[u8],
     vram: &mut [u8],
     oam: &mut [u8],
-) -> Bussed
-    ensures { λ r. ⌜ Bused state input (now (cartridge .entry)) (now (wram .entry)) (now (vram .entry)) (now (oam .entry))
+) -> BusOutcome
+    ensures { λ r. ⌜ AnswersBus state input (now (cartridge .entry)) (now (wram .entry)) (now (vram .entry)) (now (oam .entry))
         r (now (vram .exit)) (now (oam .exit)) ⌝ }
 {
     if state.unreached() {
@@ -56,7 +56,7 @@ pub fn vram_dma_commit_bytes(
     let pairs = run.pairs;
     let bytes = run.bytes;
     let after = same::cgb_with(state, run.dma);
-    Bussed {
+    BusOutcome {
         answer: BusAnswer::Moved {
             count: run.count,
             setup_cell: run.setup_cell,

@@ -1,5 +1,4 @@
-// The public calls on the buses: register and WRAM reads and writes, the bus call, arbitration with OAM DMA and the write
-// conflict. Each tests 7 and its own refusals in the paper's order, and hands back what it was given where it declines.
-pub mod access;
+// The calls on the bus that the engine shares: the bus call, arbitration with OAM DMA and the write conflict. Each tests 7 and its
+// own refusals in the paper's order, and hands back what it was given where it declines.
 pub mod bus_call;
 pub mod shared_bus;

@@ -1,4 +1,2 @@
 pub mod Says
-mod FallCall
 pub mod SwitchBlind
-pub mod RefusalSteps

@@ -1,18 +1,9 @@
--- What each answer says is what the part below it said. Assumes nothing.
-use mathlib.Core.Path.{_≡_, refl}
-use Rattle.speed_switch.specs.declared.switch.SwitchOutcome.{SwitchOutcome}
-use Rattle.speed_switch.specs.declared.switch.SwitchOutcome.the-variants as outcome
-use Rattle.transfer.specs.declared.pair.NextAnswer.{NextAnswer}
-use Rattle.transfer.specs.declared.pair.NextAnswer.the-variants as next
-use Rattle.answers.specs.Answers.{accepted, pairSays, switchSays}
-use Rattle.engine.specs.Pair.{pairAnswerOf, pairValues}
-use Rattle.engine.specs.Speed.{switchAnswerOf, switchValues}
-
-pub pair-said : (a : NextAnswer) → pairSays (pairAnswerOf a) ≡ accepted (pairValues a)
-pair-said (next.Pair p) = refl
-pair-said next.None = refl
-
-pub switch-said : (o : SwitchOutcome) → switchSays (switchAnswerOf o) ≡ accepted (switchValues o)
-switch-said outcome.None = refl
-switch-said outcome.Discarded = refl
-switch-said outcome.Cut = refl
+-- What each call says, by its definition, is what its promises state: so every promise can be kept. Passed on from the calls' crates.
+pub use Rattle.answers.proofs.Numbers.{told}
+pub use Rattle.register_calls.proofs.Says.{read-told, write-told}
+pub use Rattle.fall_call.proofs.FallCall.{fall-told}
+pub use Rattle.transfer_calls.proofs.Says.{pair-said, next-told, drain-told, lcd-told, retired-told}
+pub use Rattle.bus_calls.proofs.Says.{arbitration-said, conflict-said, bus-told, arbitrate-told, conflict-told}
+pub use Rattle.speed_calls.proofs.Says.{switch-said, switch-told, blackout-told, wake-told}
+pub use Rattle.answers.proofs.Queries.{flag-told, byte-told}
+pub use Rattle.engine_queries.proofs.Says.{tally-told, status-told, claim-told}

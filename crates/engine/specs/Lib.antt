@@ -1,6 +1,2 @@
-pub mod Pair
-pub mod Fall
-pub mod Speed
-pub mod Lcd
+pub mod Calls
 pub mod SwitchBlind
-pub mod RefusalSteps

@@ -1,0 +1,2 @@
+pub mod FallCall
+pub mod FallCallSteps

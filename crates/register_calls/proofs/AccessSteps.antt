@@ -1,0 +1,63 @@
+-- Reads and writes are declined by their numbers, and else do what the map does (specs, `AccessSteps`). Assumes nothing.
+use Prim.Native.Nat.{ℕ}
+use native.Mathlib.Omega.{arith}
+use mathlib.Core.Path.{_≡_, refl, ap}
+use mathlib.Core.Bool.{Bool, true, false, cond, not}
+use mathlib.Core.List.{List}
+use mathlib.Core.Logic.{_↔_}
+use lib.ListN.{length}
+use borrow.Author.Tests.{eq-eqb, ne-eqb}
+use Rattle.console.specs.Reached.{unreached}
+use Rattle.console.specs.declared.Cgb.{Cgb}
+use Rattle.memory.specs.Lengths.{wramLength, wrongLength}
+use Rattle.transfer.proofs.Conditions.{when-false}
+use Rattle.registers.specs.Map.{placeOf, isMapped}
+use Rattle.registers.specs.Read.{byteAt, mapReadOf}
+use Rattle.registers.specs.declared.MapRead.the-variants as map
+use Rattle.registers.specs.declared.WriteInput.{WriteInput}
+use Rattle.registers.proofs.MapSteps.{mapped}
+use Rattle.register_calls.specs.Access.{accessRefusal, readRefusal, readOf, writeOf, writeWram}
+use Rattle.register_calls.specs.AccessSteps.{AccessRefusals, AccessSteps}
+use Rattle.answers.specs.declared.ByteAnswer.the-variants as byte
+
+refusals : (s : Cgb) (n a : ℕ) → AccessRefusals (accessRefusal isMapped s n a) s n a
+unfolding accessRefusal
+refusals s n a =
+    record {
+      first-7 = λ seven. rw seven;
+      then-2 = λ reached other. rw (reached, ne-eqb n 32768 other);
+      then-4 = λ reached whole off. rw (reached, eq-eqb n 32768 whole, when-false (isMapped (placeOf a)) (mapped a) .1 off);
+      accepted = λ reached whole here. rw (reached, eq-eqb n 32768 whole, mapped a .1 here);
+    }
+
+-- no number means that the address is in the map
+in-map : (seven two here : Bool) → _≡_ {A = ℕ} (cond seven 7 (cond two 2 (cond (not here) 4 0))) 0 → here ≡ true
+in-map seven two true e = refl
+in-map true two false e = absurd (omega arith)
+in-map false true false e = absurd (omega arith)
+in-map false false false e = absurd (omega arith)
+
+is-mapped : (s : Cgb) (n a : ℕ) → readRefusal s n a ≡ 0 → isMapped (placeOf a) ≡ true
+unfolding accessRefusal
+is-mapped s n a e = in-map (unreached s) (wrongLength wramLength n) (isMapped (placeOf a)) e
+
+module _ (s : Cgb) (w : WriteInput) (a : ℕ) (wram : List ℕ) where
+  read : readRefusal s (length wram) a ≡ 0 → (b : ℕ) → (readOf s wram a ≡ byte.Byte b) ↔ (mapReadOf s wram a ≡ map.Byte b)
+  unfolding readOf mapReadOf
+  read free b =
+      rw (free, is-mapped s (length wram) a free) (
+        λ e. let x : byteAt s wram (placeOf a) ≡ b = cc in ap map.Byte x,
+        λ e. let x : byteAt s wram (placeOf a) ≡ b = cc in ap byte.Byte x,
+      )
+
+  pub access-steps : AccessSteps s w a wram
+  unfolding readOf writeOf writeWram
+  access-steps =
+      record {
+        read-refusals = refusals s (length wram) a;
+        write-refusals = refusals s (length wram) a;
+        read = read;
+        write = λ free. (rw free, rw free);
+        read-declined = λ number e other. rw (e, ne-eqb number 0 other);
+        write-declined = λ number e other. let k = ne-eqb number 0 other in (rw (e, k), rw (e, k));
+      }

@@ -1,0 +1,3 @@
+pub mod Says
+pub mod Accepted
+pub mod AccessSteps

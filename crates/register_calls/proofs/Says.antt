@@ -1,0 +1,84 @@
+-- What a read and a write say; and their promises, from what they returned. Assumes nothing.
+use Prim.Native.Nat.{ℕ}
+use mathlib.Core.Path.{_≡_, refl, ap, _∙_}
+use mathlib.Core.Bool.{Bool, true, false}
+use mathlib.Core.List.{List, [], _∷_}
+use lib.Dec.{eqb}
+use lib.ListN.{length}
+use borrow.Author.Tests.{eq-eqb, ne-eqb}
+use Rattle.console.specs.Reached.{unreached}
+use Rattle.console.specs.declared.Cgb.{Cgb}
+use Rattle.memory.specs.Lengths.{wramLength}
+use Rattle.registers.specs.Map.{Place, placeOf}
+use Rattle.registers.specs.Read.{byteAt}
+use Rattle.registers.specs.Write.{mapWriteOf, wramAfter}
+use Rattle.registers.specs.declared.WriteInput.{WriteInput}
+use Rattle.answers.specs.Answers.{Answers, byteSays, doneSays, doneStateSays}
+use Rattle.answers.specs.declared.ByteAnswer.{ByteAnswer}
+use Rattle.answers.specs.declared.ByteAnswer.the-variants as byte
+use Rattle.answers.specs.declared.Done.{Done}
+use Rattle.answers.specs.declared.DoneAnswer.the-variants as done
+use Rattle.answers.proofs.Numbers.{told, answers}
+use Rattle.register_calls.specs.Access.{accessRefusal, readRefusal, writeRefusal, readOf, readSaid, writeOf, writeSaid, writeWram, AnswersWrite}
+
+module _ (s : Cgb) where
+  pub write-told : (w : WriteInput) (a n : ℕ) → doneStateSays (writeOf s w a n) ≡ writeSaid s a n
+  unfolding writeOf writeSaid
+  write-told w a n = told doneSays done.Refused done.Done [] (λ k. refl) refl (writeRefusal s n a)
+
+  pub read-told : (wram : List ℕ) (a : ℕ) → byteSays (readOf s wram a) ≡ readSaid s wram a
+  unfolding readOf readSaid
+  read-told wram a = told byteSays byte.Refused (byte.Byte (byteAt s wram (placeOf a))) _ (λ k. refl) refl (readRefusal s (length wram) a)
+
+-- the number by the first test that holds
+module _ (map : Place → Bool) (s : Cgb) (n a : ℕ) where
+  pub at-7 : unreached s ≡ true → accessRefusal map s n a ≡ 7
+  unfolding accessRefusal
+  at-7 seven = rw seven
+
+  pub at-2 : unreached s ≡ false → (n ≡ wramLength → ⊥) → accessRefusal map s n a ≡ 2
+  unfolding accessRefusal
+  at-2 reached other = rw (reached, ne-eqb n wramLength other)
+
+  pub at-4 : unreached s ≡ false → n ≡ wramLength → map (placeOf a) ≡ false → accessRefusal map s n a ≡ 4
+  unfolding accessRefusal
+  at-4 reached whole off = rw (reached, eq-eqb n wramLength whole, off)
+
+  pub at-none : unreached s ≡ false → n ≡ wramLength → map (placeOf a) ≡ true → accessRefusal map s n a ≡ 0
+  unfolding accessRefusal
+  at-none reached whole here = rw (reached, eq-eqb n wramLength whole, here)
+
+-- a read that is declined with k, or gives the map's byte
+module _ (s : Cgb) (wram : List ℕ) (a : ℕ) (r : ByteAnswer) where
+  pub read-declined :
+      (k : ℕ) → readRefusal s (length wram) a ≡ k → eqb k 0 ≡ false → r ≡ byte.Refused k →
+      Answers byteSays (readOf s wram a) (readSaid s wram a) r
+  unfolding readOf
+  read-declined k number some is = answers (read-told s wram a) (is ∙ rw (number, some))
+
+  pub read-given :
+      readRefusal s (length wram) a ≡ 0 → r ≡ byte.Byte (byteAt s wram (placeOf a)) →
+      Answers byteSays (readOf s wram a) (readSaid s wram a) r
+  unfolding readOf
+  read-given number is = answers (read-told s wram a) (is ∙ rw number)
+
+-- a write that is declined with k, or does what the map does
+module _ (s : Cgb) (w : WriteInput) (a : ℕ) (wram : List ℕ) (r : Done) (last : List ℕ) where
+  says : r ≡ writeOf s w a (length wram) → doneSays (r .answer) ≡ writeSaid s a (length wram)
+  says is = ap doneStateSays is ∙ write-told s w a (length wram)
+
+  pub write-declined :
+      (k : ℕ) → writeRefusal s (length wram) a ≡ k → eqb k 0 ≡ false → r ≡ record { answer = done.Refused k; state = s } →
+      last ≡ wram → AnswersWrite s w a wram r last
+  unfolding writeOf writeWram
+  write-declined k number some is stays =
+      let result : r ≡ writeOf s w a (length wram) = is ∙ rw (number, some) in
+      record { result = result; says = says result; memory = stays ∙ rw (number, some) }
+
+  pub write-done :
+      writeRefusal s (length wram) a ≡ 0 → r ≡ record { answer = done.Done; state = mapWriteOf s w a .state } →
+      last ≡ wramAfter s wram (w .value) a → AnswersWrite s w a wram r last
+  unfolding writeOf writeWram
+  write-done number is stored =
+      let result : r ≡ writeOf s w a (length wram) = is ∙ rw number in
+      record { result = result; says = says result; memory = stored ∙ rw number }

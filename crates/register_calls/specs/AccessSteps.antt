@@ -1,0 +1,41 @@
+-- What is shown of reads and writes as calls (document 01, section 1): when they are declined and with which number, and that
+-- an accepted one gives and leaves what the map does (`MapSteps`, `RegisterSteps` and `CompatSteps` tell it by address).
+use Prim.Native.Nat.{ℕ}
+use mathlib.Core.Path.{_≡_}
+use mathlib.Core.Bool.{true, false}
+use mathlib.Core.List.{List}
+use mathlib.Core.Logic.{_↔_}
+use lib.ListN.{length}
+use Rattle.console.specs.Reached.{unreached}
+use Rattle.console.specs.declared.Cgb.{Cgb}
+use Rattle.registers.specs.MapSteps.{Mapped}
+use Rattle.registers.specs.Read.{mapReadOf}
+use Rattle.registers.specs.Write.{mapWriteOf, wramAfter}
+use Rattle.registers.specs.declared.MapRead.the-variants as map
+use Rattle.registers.specs.declared.WriteInput.{WriteInput}
+use Rattle.register_calls.specs.Access.{readRefusal, writeRefusal, readOf, writeOf, writeWram}
+use Rattle.answers.specs.declared.ByteAnswer.the-variants as byte
+use Rattle.answers.specs.declared.DoneAnswer.the-variants as done
+
+-- "Order: 7 first wherever a state is given; a read or write 2, 4": n bytes of work RAM are lent
+pub record AccessRefusals (number : ℕ) (s : Cgb) (n a : ℕ) : Type 0 where
+  pub first-7 : unreached s ≡ true → number ≡ 7
+  pub then-2 : unreached s ≡ false → (n ≡ 32768 → ⊥) → number ≡ 2
+  pub then-4 : unreached s ≡ false → n ≡ 32768 → (Mapped a → ⊥) → number ≡ 4
+  pub accepted : unreached s ≡ false → n ≡ 32768 → Mapped a → number ≡ 0
+
+pub record AccessSteps (s : Cgb) (w : WriteInput) (a : ℕ) (wram : List ℕ) : Type 0 where
+  pub read-refusals : AccessRefusals (readRefusal s (length wram) a) s (length wram) a
+  pub write-refusals : AccessRefusals (writeRefusal s (length wram) a) s (length wram) a
+  -- accepted: the map's byte; the map's state and work RAM
+  pub read : readRefusal s (length wram) a ≡ 0 → (b : ℕ) → (readOf s wram a ≡ byte.Byte b) ↔ (mapReadOf s wram a ≡ map.Byte b)
+  pub write :
+      writeRefusal s (length wram) a ≡ 0 →
+      (writeOf s w a (length wram) ≡ record { answer = done.Done; state = mapWriteOf s w a .state }) ×
+      (writeWram s w a wram ≡ wramAfter s wram (w .value) a)
+  -- "Each gives its number, no pair, and state and slices as before"
+  pub read-declined :
+      (number : ℕ) → readRefusal s (length wram) a ≡ number → (number ≡ 0 → ⊥) → readOf s wram a ≡ byte.Refused number
+  pub write-declined :
+      (number : ℕ) → writeRefusal s (length wram) a ≡ number → (number ≡ 0 → ⊥) →
+      (writeOf s w a (length wram) ≡ record { answer = done.Refused number; state = s }) × (writeWram s w a wram ≡ wram)

@@ -1,0 +1,2 @@
+pub mod Queries
+pub mod QuerySteps
