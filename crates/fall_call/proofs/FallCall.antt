@@ -4,7 +4,6 @@ use mathlib.Core.Path.{_≡_, refl, _∙_}
 use mathlib.Core.Bool.{Bool, true, false, cond}
 use lib.Dec.{eqb}
 use Rattle.console.specs.declared.Cgb.{Cgb}
-use Rattle.console.specs.declared.VramDmaClaim.{VramDmaClaim}
 use Rattle.console.specs.declared.vram_dma.VramDma.{VramDma}
 use Rattle.fall_edge.specs.Fall.{fallOf, refusedOf}
 use Rattle.fall_edge.specs.declared.FallInput.{FallInput}

@@ -11,7 +11,8 @@ use Rattle.console.specs.Reached.{unreached}
 use Rattle.console.specs.declared.Cgb.{Cgb}
 use Rattle.memory.specs.Lengths.{wramLength, wrongLength}
 use Rattle.transfer.proofs.Conditions.{when-false}
-use Rattle.registers.specs.Map.{placeOf, isMapped}
+use Rattle.registers.specs.Map.{Place, placeOf}
+use Rattle.registers.specs.MapSteps.{Mapped}
 use Rattle.registers.specs.Read.{byteAt, mapReadOf}
 use Rattle.registers.specs.declared.MapRead.the-variants as map
 use Rattle.registers.specs.declared.WriteInput.{WriteInput}
@@ -20,14 +21,15 @@ use Rattle.register_calls.specs.Access.{accessRefusal, readRefusal, read
 use Rattle.register_calls.specs.AccessSteps.{AccessRefusals, AccessSteps}
 use Rattle.answers.specs.declared.ByteAnswer.the-variants as byte
 
-refusals : (s : Cgb) (n a : ℕ) → AccessRefusals (accessRefusal isMapped s n a) s n a
+refusals :
+    (map : Place → Bool) (s : Cgb) (n a : ℕ) → (map (placeOf a) ≡ true) ↔ Mapped a → AccessRefusals (accessRefusal map s n a) s n a
 unfolding accessRefusal
-refusals s n a =
+refusals map s n a mapped =
     record {
       first-7 = λ seven. rw seven;
       then-2 = λ reached other. rw (reached, ne-eqb n 32768 other);
-      then-4 = λ reached whole off. rw (reached, eq-eqb n 32768 whole, when-false (isMapped (placeOf a)) (mapped a) .1 off);
-      accepted = λ reached whole here. rw (reached, eq-eqb n 32768 whole, mapped a .1 here);
+      then-4 = λ reached whole off. rw (reached, eq-eqb n 32768 whole, when-false (map (placeOf a)) mapped .1 off);
+      accepted = λ reached whole here. rw (reached, eq-eqb n 32768 whole, mapped .1 here);
     }
 
 -- no number means that the address is in the map
@@ -37,15 +39,15 @@ in-map true two false e = absurd (omega arith)
 in-map false true false e = absurd (omega arith)
 in-map false false false e = absurd (omega arith)
 
-is-mapped : (s : Cgb) (n a : ℕ) → readRefusal s n a ≡ 0 → isMapped (placeOf a) ≡ true
+is-mapped : (map : Place → Bool) (s : Cgb) (n a : ℕ) → accessRefusal map s n a ≡ 0 → map (placeOf a) ≡ true
 unfolding accessRefusal
-is-mapped s n a e = in-map (unreached s) (wrongLength wramLength n) (isMapped (placeOf a)) e
+is-mapped map s n a e = in-map (unreached s) (wrongLength wramLength n) (map (placeOf a)) e
 
 module _ (s : Cgb) (w : WriteInput) (a : ℕ) (wram : List ℕ) where
   read : readRefusal s (length wram) a ≡ 0 → (b : ℕ) → (readOf s wram a ≡ byte.Byte b) ↔ (mapReadOf s wram a ≡ map.Byte b)
   unfolding readOf mapReadOf
   read free b =
-      rw (free, is-mapped s (length wram) a free) (
+      rw (free, is-mapped _ s (length wram) a free) (
         λ e. let x : byteAt s wram (placeOf a) ≡ b = cc in ap map.Byte x,
         λ e. let x : byteAt s wram (placeOf a) ≡ b = cc in ap byte.Byte x,
       )
@@ -54,8 +56,8 @@ module _ (s : Cgb) (w : WriteInput) (a : ℕ) (wram : List ℕ) where
   unfolding readOf writeOf writeWram
   access-steps =
       record {
-        read-refusals = refusals s (length wram) a;
-        write-refusals = refusals s (length wram) a;
+        read-refusals = refusals _ s (length wram) a (mapped a);
+        write-refusals = refusals _ s (length wram) a (mapped a);
         read = read;
         write = λ free. (rw free, rw free);
         read-declined = λ number e other. rw (e, ne-eqb number 0 other);

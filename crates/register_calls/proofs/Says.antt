@@ -2,7 +2,7 @@
 use Prim.Native.Nat.{ℕ}
 use mathlib.Core.Path.{_≡_, refl, ap, _∙_}
 use mathlib.Core.Bool.{Bool, true, false}
-use mathlib.Core.List.{List, [], _∷_}
+use mathlib.Core.List.{List, []}
 use lib.Dec.{eqb}
 use lib.ListN.{length}
 use borrow.Author.Tests.{eq-eqb, ne-eqb}
@@ -50,35 +50,35 @@ module _ (map : Place → Bool) (s : Cgb) (n a : ℕ) where
 
 -- a read that is declined with k, or gives the map's byte
 module _ (s : Cgb) (wram : List ℕ) (a : ℕ) (r : ByteAnswer) where
-  pub read-declined :
+  pub declined-read :
       (k : ℕ) → readRefusal s (length wram) a ≡ k → eqb k 0 ≡ false → r ≡ byte.Refused k →
       Answers byteSays (readOf s wram a) (readSaid s wram a) r
   unfolding readOf
-  read-declined k number some is = answers (read-told s wram a) (is ∙ rw (number, some))
+  declined-read k number some is = answers (read-told s wram a) (is ∙ rw (number, some))
 
-  pub read-given :
+  pub given-read :
       readRefusal s (length wram) a ≡ 0 → r ≡ byte.Byte (byteAt s wram (placeOf a)) →
       Answers byteSays (readOf s wram a) (readSaid s wram a) r
   unfolding readOf
-  read-given number is = answers (read-told s wram a) (is ∙ rw number)
+  given-read number is = answers (read-told s wram a) (is ∙ rw number)
 
 -- a write that is declined with k, or does what the map does
 module _ (s : Cgb) (w : WriteInput) (a : ℕ) (wram : List ℕ) (r : Done) (last : List ℕ) where
   says : r ≡ writeOf s w a (length wram) → doneSays (r .answer) ≡ writeSaid s a (length wram)
   says is = ap doneStateSays is ∙ write-told s w a (length wram)
 
-  pub write-declined :
+  pub declined-write :
       (k : ℕ) → writeRefusal s (length wram) a ≡ k → eqb k 0 ≡ false → r ≡ record { answer = done.Refused k; state = s } →
       last ≡ wram → AnswersWrite s w a wram r last
   unfolding writeOf writeWram
-  write-declined k number some is stays =
+  declined-write k number some is stays =
       let result : r ≡ writeOf s w a (length wram) = is ∙ rw (number, some) in
       record { result = result; says = says result; memory = stays ∙ rw (number, some) }
 
-  pub write-done :
+  pub done-write :
       writeRefusal s (length wram) a ≡ 0 → r ≡ record { answer = done.Done; state = mapWriteOf s w a .state } →
       last ≡ wramAfter s wram (w .value) a → AnswersWrite s w a wram r last
   unfolding writeOf writeWram
-  write-done number is stored =
+  done-write number is stored =
       let result : r ≡ writeOf s w a (length wram) = is ∙ rw number in
       record { result = result; says = says result; memory = stored ∙ rw number }

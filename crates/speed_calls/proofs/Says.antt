@@ -3,7 +3,6 @@ use Prim.Native.Nat.{ℕ, _<_, _≤_}
 use native.Mathlib.Omega.{arith}
 use mathlib.Core.Path.{_≡_, refl, _∙_}
 use mathlib.Core.Bool.{Bool}
-use mathlib.Core.List.{[], _∷_}
 use borrow.Author.Tests.{eq-eqb, ne-eqb}
 use Rattle.console.specs.Reached.{unreached}
 use Rattle.console.specs.declared.Cgb.{Cgb}
@@ -12,12 +11,13 @@ use Rattle.speed_switch.specs.Switch.{switchedOf}
 use Rattle.speed_switch.specs.declared.switch.SwitchInput.{SwitchInput}
 use Rattle.speed_switch.specs.declared.switch.SwitchOutcome.{SwitchOutcome}
 use Rattle.speed_switch.specs.declared.switch.SwitchOutcome.the-variants as outcome
-use Rattle.answers.specs.Answers.{accepted, bitOf, Answers, stateRefusal, flagSays, flaggedSays, switchSays, switchedSays}
+use Rattle.answers.specs.Answers.{accepted, Answers, stateRefusal, flagSays, flaggedSays, switchSays, switchedSays}
 use Rattle.answers.specs.declared.FlagAnswer.the-variants as flag
 use Rattle.answers.specs.declared.SwitchAnswer.the-variants as switch
 use Rattle.answers.specs.declared.Switched.{Switched}
 use Rattle.answers.proofs.Numbers.{told, answers}
-use Rattle.speed_calls.specs.Speed.{defers, switchNumber, switchAnswerOf, switchRefusal, switchCallOf, switchSaid, blackoutCallOf, blackoutSaid, wakeCallOf, wakeSaid}
+use Rattle.speed_calls.specs.Speed.{defers, switchNumber, switchAnswerOf, switchRefusal, switchCallOf, switchSaid}
+use Rattle.speed_calls.specs.Speed.{blackoutCallOf, blackoutSaid, wakeCallOf, wakeSaid}
 
 -- what became of the switch is accepted
 pub switch-said : (o : SwitchOutcome) → switchSays (switchAnswerOf o) ≡ accepted (switchSays (switchAnswerOf o) .values)

@@ -2,7 +2,8 @@
 // `drain_speed_switch_blackout`, `speed_switch_wake_ready`).
 ghost use mathlib.Core.Path.{_≡_};
 ghost use Rattle.answers.specs.Answers.{Answers, switchedSays, flaggedSays};
-ghost use Rattle.speed_calls.specs.Speed.{defers, switchNumber, switchAnswerOf, switchCallOf, switchSaid, blackoutCallOf, blackoutSaid, wakeCallOf, wakeSaid};
+ghost use Rattle.speed_calls.specs.Speed.{defers, switchNumber, switchAnswerOf, switchCallOf, switchSaid};
+ghost use Rattle.speed_calls.specs.Speed.{blackoutCallOf, blackoutSaid, wakeCallOf, wakeSaid};
 use answers::FlagAnswer;
 use answers::Flagged;
 use answers::SwitchAnswer;

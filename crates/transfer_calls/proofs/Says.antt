@@ -1,9 +1,6 @@
 -- What the pair, the drain, LCD off and a retired instruction say; and their promises, from what they returned. Assumes nothing.
-use mathlib.Core.Path.{_≡_, refl, _∙_}
-use mathlib.Core.Bool.{true, false}
+use mathlib.Core.Path.{_≡_, refl}
 use mathlib.Core.List.{[]}
-use Rattle.console.specs.Reached.{unreached}
-use Rattle.console.specs.Set.{withVramDma}
 use Rattle.console.specs.declared.Cgb.{Cgb}
 use Rattle.transfer.specs.Pair.{nextByteOf, drainOf}
 use Rattle.transfer.specs.declared.pair.NextAnswer.{NextAnswer}

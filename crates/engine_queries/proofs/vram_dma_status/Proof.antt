@@ -13,7 +13,9 @@ returns c = answers (status-told _) (declined-7 status.Refused _ _ (sym (c .befo
 
 returns-2 : tie.Need-returns-2
 unfolding statusCallOf
-returns-2 c = answers (status-told _) (ap status.Status (c .status .ensures) ∙ passed-7 status.Refused _ _ (sym (c .before .before .before .unreached .ensures) ∙ c .before .before .if1 .left))
+returns-2 c =
+    let reached = sym (c .before .before .before .unreached .ensures) ∙ c .before .before .if1 .left in
+    answers (status-told _) (ap status.Status (c .status .ensures) ∙ passed-7 status.Refused _ _ reached)
 
 pub vram-dma-status-spec : {M : Type 1} → statement M
 vram-dma-status-spec = tie.close (tie.spec (λ _ _. tt) returns (λ _ _. tt) returns-2)

@@ -3,17 +3,17 @@ use mathlib.Core.Path.{refl, sym, ap, _∙_}
 use borrow.Author.Needs.{needs}
 use Rattle.registers.specs.declared.MapWritten.{MapWritten}
 use Rattle.registers.proofs.Mapped.{write-mapped, off-map-keeps-wram}
-use Rattle.register_calls.proofs.Says.{at-7, at-2, at-4, at-none, write-declined, write-done}
+use Rattle.register_calls.proofs.Says.{at-7, at-2, at-4, at-none, declined-write, done-write}
 use Rattle.register_calls.proofs.write.Statement.{statement}
 use Rattle.register_calls.proofs.write.Tie as tie
 
 returns : tie.Need-returns
-returns c = write-declined _ _ _ _ _ _ 7 (at-7 _ _ _ _ (sym (c .before .unreached .ensures) ∙ c .if1 .taken)) refl refl refl
+returns c = declined-write _ _ _ _ _ _ 7 (at-7 _ _ _ _ (sym (c .before .unreached .ensures) ∙ c .if1 .taken)) refl refl refl
 
 returns-2 : tie.Need-returns-2
 returns-2 c =
     let reached = sym (c .before .before .unreached .ensures) ∙ c .before .if1 .left in
-    write-declined _ _ _ _ _ _ 2 (at-2 _ _ _ _ reached (c .if2 .taken)) refl refl refl
+    declined-write _ _ _ _ _ _ 2 (at-2 _ _ _ _ reached (c .if2 .taken)) refl refl refl
 
 returns-3 : tie.Need-returns-3
 returns-3 c =
@@ -21,7 +21,7 @@ returns-3 c =
     let wrote = c .before .before .before .before .map-write-byte .ensures in
     let reached = sym (at .before .before .unreached .ensures) ∙ at .before .if1 .left in
     let here = sym (write-mapped _ _ _) ∙ sym (ap (λ (r : MapWritten). r .mapped) (wrote .answer)) ∙ c .before .if3 .taken in
-    write-done _ _ _ _ _ _ (at-none _ _ _ _ reached (at .if2 .left) here) (rw (wrote .answer)) (wrote .wram)
+    done-write _ _ _ _ _ _ (at-none _ _ _ _ reached (at .if2 .left) here) (rw (wrote .answer)) (wrote .wram)
 
 returns-4 : tie.Need-returns-4
 returns-4 c =
@@ -29,7 +29,7 @@ returns-4 c =
     let wrote = c .before .before .before .map-write-byte .ensures in
     let reached = sym (at .before .before .unreached .ensures) ∙ at .before .if1 .left in
     let off = sym (write-mapped _ _ _) ∙ sym (ap (λ (r : MapWritten). r .mapped) (wrote .answer)) ∙ c .if3 .left in
-    write-declined _ _ _ _ _ _ 4 (at-4 _ _ _ _ reached (at .if2 .left) off) refl refl (wrote .wram ∙ off-map-keeps-wram _ _ _ _ off)
+    declined-write _ _ _ _ _ _ 4 (at-4 _ _ _ _ reached (at .if2 .left) off) refl refl (wrote .wram ∙ off-map-keeps-wram _ _ _ _ off)
 
 pub write-spec : {M : Type 1} → statement M
 write-spec =

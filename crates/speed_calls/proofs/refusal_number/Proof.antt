@@ -18,15 +18,22 @@ returns-4 c =
 
 returns-5 : tie.Need-returns-5
 returns-5 c =
-    rw (c .before .before .before .before .before .if1 .left, le-ltb _ _ (c .before .before .before .if2 .left), c .before .before .if3 .left, le-ltb _ _ (c .before .if4 .left), c .if5 .taken)
+    let low = c .before .before .before in
+    rw (low .before .before .if1 .left, le-ltb _ _ (low .if2 .left), c .before .before .if3 .left, le-ltb _ _ (c .before .if4 .left), c .if5 .taken)
 
 returns-6 : tie.Need-returns-6
 returns-6 c =
-    rw (c .before .before .before .before .before .before .if1 .left, le-ltb _ _ (c .before .before .before .before .if2 .left), c .before .before .before .if3 .left, le-ltb _ _ (c .before .before .if4 .left), c .before .if5 .left, c .if6 .taken)
+    let at = c .before .before in
+    let low = at .before .before in
+    rw (low .before .before .if1 .left, le-ltb _ _ (low .if2 .left), at .before .if3 .left, le-ltb _ _ (at .if4 .left))
+    (rw (c .before .if5 .left, c .if6 .taken))
 
 returns-7 : tie.Need-returns-7
 returns-7 c =
-    rw (c .before .before .before .before .before .before .if1 .left, le-ltb _ _ (c .before .before .before .before .if2 .left), c .before .before .before .if3 .left, le-ltb _ _ (c .before .before .if4 .left), c .before .if5 .left, c .if6 .left)
+    let at = c .before .before in
+    let low = at .before .before in
+    rw (low .before .before .if1 .left, le-ltb _ _ (low .if2 .left), at .before .if3 .left, le-ltb _ _ (at .if4 .left))
+    (rw (c .before .if5 .left, c .if6 .left))
 
 pub refusal-number-spec : {M : Type 1} → statement M
 refusal-number-spec = tie.close (tie.spec returns returns-2 returns-3 returns-4 returns-5 returns-6 returns-7)
