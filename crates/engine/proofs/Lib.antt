@@ -1,2 +1,3 @@
 pub mod Says
 pub mod SwitchBlind
+pub mod OnceCalls
