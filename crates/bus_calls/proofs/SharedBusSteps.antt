@@ -22,6 +22,7 @@ use Rattle.answers.specs.declared.ArbitrationAnswer.{ArbitrationAnswer}
 use Rattle.answers.specs.declared.ArbitrationAnswer.the-variants as arbitration
 use Rattle.answers.specs.declared.ConflictAnswer.{ConflictAnswer}
 use Rattle.answers.specs.declared.ConflictAnswer.the-variants as conflict
+use Rattle.answers.proofs.Numbers.{state-passes}
 use Rattle.bus_calls.specs.Bus.{arbitrationAnswerOf, arbitrated, arbitrationCallOf, conflictAnswerOf, conflictCallOf}
 use Rattle.bus_calls.specs.SharedBusSteps.{ArbitrationCall, ConflictCall, SharedBusSteps}
 
@@ -56,8 +57,7 @@ same-conflict a b = (λ e. sym (unback-conflict a) ∙ ap back-conflict e ∙ un
 
 module _ (s : Cgb) (reached : unreached s ≡ false) where
   passes : stateRefusal s ≡ 0
-  unfolding stateRefusal
-  passes = rw reached
+  passes = state-passes s reached
 
   module _ (i : ArbitrationInput) where
     answers : arbitrationCallOf s i .answer ≡ arbitrationAnswerOf (arbitrated s i .answer)
