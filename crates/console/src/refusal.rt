@@ -14,6 +14,8 @@ pub const PHASE: u8 = 3;
 pub const ADDRESS: u8 = 4;
 // A switch under hold.
 pub const HELD: u8 = 5;
+// A record of other kind, or short.
+pub const RECORD: u8 = 6;
 // A state that no run leaves.
 pub const STATE: u8 = 7;
 // A blackout is running.
