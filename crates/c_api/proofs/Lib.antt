@@ -1,2 +1,1 @@
-pub mod OtherKinds
 pub mod Entries

@@ -3,9 +3,9 @@
 use Prim.Native.Nat.{ℕ}
 use mathlib.Core.Path.{_≡_}
 use mathlib.Core.List.{List}
-use Rattle.c_api.specs.Answer.{refusedBytes}
+use Rattle.record.specs.Answer.{refusedBytes}
 
-pub record Declined (state wram vram oam : List ℕ) (r : ℕ) (lastState lastAnswer lastWram lastVram lastOam : List ℕ) : Type 0 where
+pub record DeclinedBytes (state wram vram oam : List ℕ) (r : ℕ) (lastState lastAnswer lastWram lastVram lastOam : List ℕ) : Type 0 where
   -- the number and zeros
   pub number-alone : lastAnswer ≡ refusedBytes r
   -- byte for byte

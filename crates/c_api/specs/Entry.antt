@@ -8,12 +8,12 @@ use Rattle.codec.specs.Codec.{encodeOf, decodeOf}
 use Rattle.codec.specs.Number.{byteAt}
 use Rattle.console.specs.PowerOn.{powerOnOf}
 use Rattle.console.specs.declared.Cgb.{Cgb}
-use Rattle.perform.specs.Perform.{performOf, wramAfter, vramAfter, oamAfter}
-use Rattle.c_api.specs.Answer.{answerBytes, refusedBytes}
-use Rattle.c_api.specs.Declined.{Declined}
-use Rattle.c_api.specs.Record.{codedOf}
-use Rattle.c_api.specs.declared.record.Coded.{Coded}
-use Rattle.c_api.specs.declared.record.Coded.the-variants.{Call, Unknown}
+use Rattle.perform.specs.Perform.{performOf, wramLeft, vramLeft, oamLeft}
+use Rattle.record.specs.Answer.{answerBytes, refusedBytes}
+use Rattle.c_api.specs.Declined.{DeclinedBytes}
+use Rattle.record.specs.Record.{callOf}
+use Rattle.record.specs.declared.Coded.{Coded}
+use Rattle.record.specs.declared.Coded.the-variants.{Call, Unknown}
 
 unfoldable pub poweredOn : ℕ → List ℕ
 poweredOn compat = encodeOf (powerOnOf (not (eqb compat 0)))
@@ -40,16 +40,16 @@ calledOf s (Call c) state cartridge wram vram oam =
       result = p .told .refusal;
       state = encodeOf (p .state);
       answer = answerBytes p;
-      wram = wramAfter s c wram;
-      vram = vramAfter s c cartridge wram vram oam;
-      oam = oamAfter s c cartridge wram vram oam;
+      wram = wramLeft s c wram;
+      vram = vramLeft s c cartridge wram vram oam;
+      oam = oamLeft s c cartridge wram vram oam;
     }
 calledOf s Unknown state cartridge wram vram oam = refusedLeft 6 state wram vram oam
 
 -- 7 first
 unfoldable pub enteredOf : List ℕ → List ℕ → List ℕ → List ℕ → List ℕ → List ℕ → Left
 enteredOf state call cartridge wram vram oam =
-    cond (decodeOf state .valid) (calledOf (decodeOf state .state) (codedOf call) state cartridge wram vram oam)
+    cond (decodeOf state .valid) (calledOf (decodeOf state .state) (callOf call) state cartridge wram vram oam)
     (refusedLeft 7 state wram vram oam)
 
 -- the whole outcome, whatever stood in the answer
@@ -60,4 +60,4 @@ pub record Entered (state call cartridge wram vram oam : List ℕ) (r : ℕ) (la
   -- byte 0 of the answer is the result
   pub number : byteAt lastAnswer 0 ≡ r
   -- with a number, whichever: the state's bytes and the slices are those given
-  pub declined : (r ≡ 0 → ⊥) → Declined state wram vram oam r lastState lastAnswer lastWram lastVram lastOam
+  pub declined : (r ≡ 0 → ⊥) → DeclinedBytes state wram vram oam r lastState lastAnswer lastWram lastVram lastOam

@@ -1,4 +1,2 @@
-pub mod Record
-pub mod Answer
 pub mod Declined
 pub mod Entry

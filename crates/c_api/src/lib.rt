@@ -1,15 +1,9 @@
 // The model for programs in other languages: the state as its 248 bytes, a call as a record of 16, an
 // answer as a record of 24, slices as pointer and length (include/cgb_vram_dma.h has every layout).
-pub mod answer;
-pub mod record;
-
 ghost use mathlib.Core.Path.{_≡_};
 ghost use Rattle.c_api.specs.Entry.{Entered, poweredOn};
 use console::refusal;
-use record::Coded;
-
-// Document 01's 6, which no call of the engine gives.
-pub const UNKNOWN_RECORD: u8 = 6;
+use record::answer;
 
 // The state at power-on; compat if not 0.
 #[no_mangle]
@@ -42,13 +36,8 @@ pub extern "C" fn cgb_perform(
         *answer = answer::refused(refusal::STATE);
         return refusal::STATE;
     }
-    let coded = record::decode(*call);
-    let Coded::Call(known) = coded else {
-        *answer = answer::refused(UNKNOWN_RECORD);
-        return UNKNOWN_RECORD;
-    };
     let given = before.state;
-    let done = perform::perform(given, known, cartridge, wram, vram, oam);
+    let done = perform::perform_record(given, record::decode(*call), cartridge, wram, vram, oam);
     let after = done.state;
     *answer = answer::encode(done);
     *state = codec::encode(after);

@@ -1,2 +1,3 @@
 pub mod Declined
 pub mod Outcomes
+pub mod Records

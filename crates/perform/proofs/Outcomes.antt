@@ -6,17 +6,18 @@ use Rattle.console.specs.declared.Cgb.{Cgb}
 use Rattle.bus.specs.declared.commit.BusInput.{BusInput}
 use Rattle.registers.specs.declared.WriteInput.{WriteInput}
 use Rattle.perform.proofs.Declined.{declined-call}
-use Rattle.perform.specs.Perform.{plainOf, readOf, Wrote, Bused, performOf, wramAfter, vramAfter, oamAfter, Performs}
-use Rattle.perform.specs.declared.call.Call.{Call}
-use Rattle.perform.specs.declared.call.Call.the-variants.{Write, Read, Bus, Plain}
-use Rattle.perform.specs.declared.call.PlainCall.{PlainCall}
-use Rattle.perform.specs.declared.touch.Performed.{Performed}
+use Rattle.perform.specs.Perform.{readPerformed, WritePerformed, BusPerformed, performOf, wramLeft, vramLeft, oamLeft, Performs}
+use Rattle.plain.specs.Plain.{plainPerformed}
+use Rattle.call.specs.declared.Call.{Call}
+use Rattle.call.specs.declared.Call.the-variants.{Write, Read, Bus, Plain}
+use Rattle.call.specs.declared.PlainCall.{PlainCall}
+use Rattle.told.specs.declared.Performed.{Performed}
 
 module _ (s : Cgb) (call : Call) (cartridge wram vram oam : List ℕ) (r : Performed) where
   -- what is said of a declined call follows from the four equations
   whole :
-      (c : Call) (w v o : List ℕ) → r ≡ performOf s c cartridge wram vram oam → w ≡ wramAfter s c wram →
-      v ≡ vramAfter s c cartridge wram vram oam → o ≡ oamAfter s c cartridge wram vram oam → Performs s c cartridge wram vram oam r w v o
+      (c : Call) (w v o : List ℕ) → r ≡ performOf s c cartridge wram vram oam → w ≡ wramLeft s c wram →
+      v ≡ vramLeft s c cartridge wram vram oam → o ≡ oamLeft s c cartridge wram vram oam → Performs s c cartridge wram vram oam r w v o
   whole c w v o result work stored deposit =
       record {
         result = result;
@@ -31,21 +32,21 @@ module _ (s : Cgb) (call : Call) (cartridge wram vram oam : List ℕ) (r : Perfo
   as-known c w v o is p = subst (λ (x : Call). Performs s x cartridge wram vram oam r w v o) (sym is) p
 
   pub performs-write :
-      (a : ℕ) (w : WriteInput) (last : List ℕ) → call ≡ Write a w → Wrote s w a wram r last →
+      (a : ℕ) (w : WriteInput) (last : List ℕ) → call ≡ Write a w → WritePerformed s w a wram r last →
       Performs s call cartridge wram vram oam r last vram oam
-  unfolding performOf wramAfter vramAfter oamAfter
+  unfolding performOf wramLeft vramLeft oamLeft
   performs-write a w last is p = as-known (Write a w) last vram oam is (whole (Write a w) last vram oam (p .result) (p .memory) refl refl)
 
-  pub performs-read : (a : ℕ) → call ≡ Read a → r ≡ readOf s wram a → Performs s call cartridge wram vram oam r wram vram oam
-  unfolding performOf wramAfter vramAfter oamAfter
+  pub performs-read : (a : ℕ) → call ≡ Read a → r ≡ readPerformed s wram a → Performs s call cartridge wram vram oam r wram vram oam
+  unfolding performOf wramLeft vramLeft oamLeft
   performs-read a is p = as-known (Read a) wram vram oam is (whole (Read a) wram vram oam p refl refl refl)
 
   pub performs-bus :
-      (i : BusInput) (v o : List ℕ) → call ≡ Bus i → Bused s i cartridge wram vram oam r v o →
+      (i : BusInput) (v o : List ℕ) → call ≡ Bus i → BusPerformed s i cartridge wram vram oam r v o →
       Performs s call cartridge wram vram oam r wram v o
-  unfolding performOf wramAfter vramAfter oamAfter
+  unfolding performOf wramLeft vramLeft oamLeft
   performs-bus i v o is p = as-known (Bus i) wram v o is (whole (Bus i) wram v o (p .result) refl (p .stored) (p .deposit))
 
-  pub performs-plain : (p : PlainCall) → call ≡ Plain p → r ≡ plainOf s p → Performs s call cartridge wram vram oam r wram vram oam
-  unfolding performOf wramAfter vramAfter oamAfter
+  pub performs-plain : (p : PlainCall) → call ≡ Plain p → r ≡ plainPerformed s p → Performs s call cartridge wram vram oam r wram vram oam
+  unfolding performOf wramLeft vramLeft oamLeft
   performs-plain p is e = as-known (Plain p) wram vram oam is (whole (Plain p) wram vram oam e refl refl refl)

@@ -1,3 +1,2 @@
-pub mod Told
-pub mod Declined
 pub mod Perform
+pub mod Record

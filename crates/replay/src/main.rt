@@ -6,7 +6,7 @@ use console::Cgb;
 use libc::STDIN_FILENO;
 use libc::STDOUT_FILENO;
 use replay_step::line;
-use replay_step::record;
+use replay_step::read;
 use replay_step::step;
 
 // Below this many bytes the output buffer still takes a line whole.
@@ -44,7 +44,7 @@ fn feed(r: Replay, part: &[u8], out: &mut [u8], wram: &mut [u8]) -> Replay {
     let mut at: usize = 0;
     let mut i: usize = 0;
     while i < part.len() {
-        let stepped = step::perform(state, wram, record::record_of(&part[i..]));
+        let stepped = step::perform(state, wram, read::record_of(&part[i..]));
         state = stepped.state;
         at = line::put_line(out, at, number, stepped.line);
         number = std::num::wrapping_add_u64(number, 1);

@@ -5,18 +5,6 @@ use borrow.Author.Needs.{needs}
 use Rattle.replay_step.proofs.line.put_line.Statement.{statement}
 use Rattle.replay_step.proofs.line.put_line.Tie as tie
 
-cast-put-field : tie.Need-cast-put-field
-cast-put-field c = search needs
-
-cast-put-field-2 : tie.Need-cast-put-field-2
-cast-put-field-2 c = search needs
-
-cast-put-field-3 : tie.Need-cast-put-field-3
-cast-put-field-3 c = search needs
-
-same-length : tie.Need-same-length
-same-length c = search needs
-
 returns : tie.Need-returns
 unfolding lineText
 returns c =
@@ -26,20 +14,22 @@ returns c =
     let pairs = left .before .before .before .before .before in
     let refusal = pairs .before .before .before .before .before in
     let number = refusal .before .before .before .before .before in
-    then (then (then (then (then (number .put-field .ensures) (refusal .put-field2 .ensures)) (pairs .put-field3 .ensures)) (left .put-field4 .ensures)) (ff55 .put-hex .ensures)) (end .put .ensures)
+    let two = then (number .put-field .ensures) (refusal .put-field2 .ensures) in
+    let four = then (then two (pairs .put-field3 .ensures)) (left .put-field4 .ensures) in
+    then (then four (ff55 .put-hex .ensures)) (end .put .ensures)
 
 pub put-line-spec : {M : Type 1} → statement M
 put-line-spec =
     tie.close
     (tie.spec
     (λ _ _. tt)
-    cast-put-field
+    (λ c. search needs)
     (λ _ _. tt)
-    cast-put-field-2
+    (λ c. search needs)
     (λ _ _. tt)
-    cast-put-field-3
+    (λ c. search needs)
     (λ _ _. tt)
     (λ _ _. tt)
     (λ _ _. tt)
-    same-length
+    (λ c. search needs)
     returns)

@@ -1,0 +1,30 @@
+// The calls as one type, each with its inputs. Those that are lent no memory stand in a type of their own.
+pub mod query;
+
+use bus::arbitration::ArbitrationInput;
+use bus::commit::BusInput;
+use fall_edge::FallInput;
+use query::Query;
+use registers::WriteInput;
+use speed_switch::switch::SwitchInput;
+
+pub enum Call {
+    Write { address: u16, input: WriteInput },
+    Read(u16),
+    Bus(BusInput),
+    Plain(PlainCall),
+}
+
+pub enum PlainCall {
+    Fall(FallInput),
+    NextPair,
+    EscapeDrain,
+    Switch(SwitchInput),
+    LcdOff,
+    InstructionRetired,
+    Blackout(u32),
+    Wake(bool),
+    Arbitrate(ArbitrationInput),
+    Conflict(u16),
+    Query(Query),
+}

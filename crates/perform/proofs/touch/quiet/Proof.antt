@@ -1,9 +1,0 @@
--- `quiet` meets its contract. Assumes nothing.
-use Rattle.perform.proofs.touch.quiet.Statement.{statement}
-use Rattle.perform.proofs.touch.quiet.Tie as tie
-
-returns : tie.Need-returns
-returns c = rw (c .cgb .ensures)
-
-pub quiet-spec : {M : Type 1} → statement M
-quiet-spec = tie.close (tie.spec (λ _ _. tt) returns)

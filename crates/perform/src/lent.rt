@@ -1,0 +1,54 @@
+// The calls that are lent memory: what each said, the pairs and bytes of a bus call, and the state after.
+ghost use mathlib.Core.Path.{_≡_};
+ghost use Rattle.perform.specs.Perform.{WritePerformed, BusPerformed, readPerformed};
+use bus::commit::BusInput;
+use console::Cgb;
+use registers::WriteInput;
+use told::Performed;
+
+pub fn write(state: Cgb, wram: &mut [u8], address: u16, input: WriteInput) -> Performed
+    ensures { λ r. ⌜ WritePerformed state input address (now (wram .entry)) r (now (wram .exit)) ⌝ }
+{
+    let done = bus_calls::access::write(state, wram, address, input);
+    let answer = done.answer;
+    let after = done.state;
+    told::quiet(told::of_done(answer), after)
+}
+
+pub fn read(state: Cgb, wram: &[u8], address: u16) -> Performed
+    ensures { λ r. ⌜ r ≡ readPerformed state (now (wram .entry)) address ⌝ }
+{
+    let answer = bus_calls::access::read(state, wram, address);
+    told::quiet(told::of_byte(answer), state)
+}
+
+pub fn bus(
+    state: Cgb,
+    input: BusInput,
+    cartridge: &[u8],
+    wram: &[u8],
+    vram: &mut [u8],
+    oam: &mut [u8],
+) -> Performed
+    ensures { λ r. ⌜ BusPerformed state input (now (cartridge .entry)) (now (wram .entry)) (now (vram .entry)) (now (oam .entry))
+        r (now (vram .exit)) (now (oam .exit)) ⌝ }
+{
+    let bussed = bus_calls::bus_call::vram_dma_commit_bytes(
+        state,
+        input,
+        cartridge,
+        wram,
+        vram,
+        oam,
+    );
+    let answer = bussed.answer;
+    let pairs = bussed.pairs;
+    let bytes = bussed.bytes;
+    let after = bussed.state;
+    Performed {
+        told: told::of_bus(answer),
+        pairs: pairs,
+        bytes: bytes,
+        state: after,
+    }
+}

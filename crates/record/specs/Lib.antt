@@ -1,0 +1,4 @@
+pub mod Input
+pub mod Kind
+pub mod Record
+pub mod Answer

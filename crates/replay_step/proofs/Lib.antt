@@ -1,2 +1,0 @@
-pub mod OtherKind
-pub mod Outcomes
