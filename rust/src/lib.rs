@@ -66,13 +66,13 @@ impl Cgb {
     }
 
     pub fn write(&mut self, wram: &mut [u8], address: u16, value: u8, lcd_on: bool) -> Result<(), Refusal> {
-        let record = Record::of(1).address(address).small(value).bits(&[lcd_on]);
+        let record = Record::of(kind::WRITE).address(address).small(value).bits(&[lcd_on]);
         perform(&mut self.0, record, Memory { cartridge: &[], wram, vram: &mut [], oam: &mut [] }).map(|_| ())
     }
 
     /// The slice is lent for writing because the entry takes it so; a read leaves it as it is.
     pub fn read(&self, wram: &mut [u8], address: u16) -> Result<u8, Refusal> {
-        let record = Record::of(8).address(address);
+        let record = Record::of(kind::READ).address(address);
         let memory = Memory { cartridge: &[], wram, vram: &mut [], oam: &mut [] };
         Ok(perform(&mut self.0.clone(), record, memory)?.byte(0))
     }
@@ -82,30 +82,30 @@ impl Cgb {
     /// owns no bus.
     pub fn vram_dma_fall_edge(&mut self, fall: Fall) -> Result<Claim, Refusal> {
         let bits = [fall.halted, fall.interrupt_latched, fall.stopped, fall.oam_dma];
-        Ok(self.alone(Record::of(2).small(fall.mode).bits(&bits).edge(fall.edge))?.claim())
+        Ok(self.alone(Record::of(kind::FALL).small(fall.mode).bits(&bits).edge(fall.edge))?.claim())
     }
 
     pub fn next_byte(&mut self) -> Result<Option<Pair>, Refusal> {
-        Ok(self.alone(Record::of(3))?.handed())
+        Ok(self.alone(Record::of(kind::NEXT_PAIR))?.handed())
     }
 
     pub fn attempt_speed_switch(&mut self, inputs: SwitchInputs) -> Result<CutOutcome, Refusal> {
         let phase = inputs.dot_phase.unwrap_or(4);
-        let record = Record::of(4).small(phase).bits(&[inputs.hold, inputs.interrupt_ready]).edge(inputs.edge);
+        let record = Record::of(kind::SPEED_SWITCH).small(phase).bits(&[inputs.hold, inputs.interrupt_ready]).edge(inputs.edge);
         Ok(self.alone(record)?.cut())
     }
 
     pub fn vram_dma_lcd_disabled(&mut self) -> Result<(), Refusal> {
-        self.alone(Record::of(5)).map(|_| ())
+        self.alone(Record::of(kind::LCD_OFF)).map(|_| ())
     }
 
     pub fn vram_dma_drain_escape(&mut self) -> Result<Option<Pair>, Refusal> {
-        Ok(self.alone(Record::of(6))?.handed())
+        Ok(self.alone(Record::of(kind::ESCAPE_DRAIN))?.handed())
     }
 
     /// Takes the elapsed master edges from the blackout, and says whether none are left.
     pub fn drain_speed_switch_blackout(&mut self, elapsed: u32) -> Result<bool, Refusal> {
-        Ok(self.alone(Record::of(7).edge(elapsed.into()))?.flag(0))
+        Ok(self.alone(Record::of(kind::BLACKOUT_DRAIN).edge(elapsed.into()))?.flag(0))
     }
 
     /// The bus call: if the CPU is held or the bus suspended, a set-up cell is used up, or what is left of the last fall's quota
@@ -117,7 +117,7 @@ impl Cgb {
         suspended: bool,
         oam_edge: u64,
     ) -> Result<Moved, Refusal> {
-        Ok(perform(&mut self.0, Record::of(9).bits(&[hold, suspended]).edge(oam_edge), memory)?.moved())
+        Ok(perform(&mut self.0, Record::of(kind::BUS_CALL).bits(&[hold, suspended]).edge(oam_edge), memory)?.moved())
     }
 
     pub fn vram_dma_arbitrate_oam(
@@ -126,74 +126,22 @@ impl Cgb {
         suspended: bool,
         oam_transfers: bool,
     ) -> Result<Arbitration, Refusal> {
-        Ok(self.alone(Record::of(10).bits(&[hold, suspended, oam_transfers]))?.arbitration())
+        Ok(self.alone(Record::of(kind::ARBITRATION).bits(&[hold, suspended, oam_transfers]))?.arbitration())
     }
 
     /// The write conflict: the source of the byte that the engine is writing at this address, if a CPU *read* of the address
     /// meets it. That is at double speed only, and once the engine has seized the bus for two falls or more.
     pub fn vram_dma_conflict_source(&self, address: u16) -> Result<Option<u16>, Refusal> {
-        let answer = self.ask(Record::of(11).address(address))?;
+        let answer = self.ask(Record::of(kind::WRITE_CONFLICT).address(address))?;
         Ok(answer.flag(0).then(|| answer.word(1)))
     }
 
     /// Whether the wake's latency is over: the first call starts it, and a call at an M-cycle's boundary ends it.
     pub fn speed_switch_wake_ready(&mut self, boundary: bool) -> Result<bool, Refusal> {
-        Ok(self.alone(Record::of(12).bits(&[boundary]))?.flag(0))
+        Ok(self.alone(Record::of(kind::WAKE_INTAKE).bits(&[boundary]))?.flag(0))
     }
 
     pub fn vram_dma_instruction_retired(&mut self) -> Result<(), Refusal> {
-        self.alone(Record::of(13)).map(|_| ())
-    }
-
-    pub fn tally(&self) -> Result<Tally, Refusal> {
-        Ok(self.ask(Record::of(14))?.tally())
-    }
-
-    pub fn vram_dma_status(&self) -> Result<Status, Refusal> {
-        Ok(self.ask(Record::of(15))?.status())
-    }
-
-    pub fn vram_dma_claim(&self) -> Result<Claim, Refusal> {
-        Ok(self.ask(Record::of(16))?.claim())
-    }
-
-    pub fn vram_dma_park_waits_for_fetch(&self) -> Result<bool, Refusal> {
-        self.ask_flag(17)
-    }
-
-    pub fn vram_dma_request_standing(&self) -> Result<bool, Refusal> {
-        self.ask_flag(18)
-    }
-
-    pub fn vram_dma_holds_cpu(&self) -> Result<bool, Refusal> {
-        self.ask_flag(19)
-    }
-
-    pub fn vram_dma_seizes_bus(&self) -> Result<bool, Refusal> {
-        self.ask_flag(20)
-    }
-
-    pub fn speed_switch_in_progress(&self) -> Result<bool, Refusal> {
-        self.ask_flag(21)
-    }
-
-    pub fn speed_switch_divider_active(&self) -> Result<bool, Refusal> {
-        self.ask_flag(22)
-    }
-
-    pub fn double_speed(&self) -> Result<bool, Refusal> {
-        self.ask_flag(23)
-    }
-
-    pub fn cpu_steps_per_dot(&self) -> Result<u8, Refusal> {
-        self.ask_byte(24)
-    }
-
-    pub fn wram_bank(&self) -> Result<u8, Refusal> {
-        self.ask_byte(25)
-    }
-
-    pub fn svbk_register(&self) -> Result<u8, Refusal> {
-        self.ask_byte(26)
+        self.alone(Record::of(kind::INSTRUCTION_RETIRED)).map(|_| ())
     }
 }

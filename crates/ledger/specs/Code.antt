@@ -1,184 +1,43 @@
--- Runs of the public functions: what each may return, by its own contract. A line for each `pub fn` of the crates
--- `engine`, `bus_calls` and `queries` (the test command compares the lists), with slices of any contents.
+-- Runs of the public functions: what each may return, by its own contract. A line for each public function of the library
+-- (tools/calls compares the lists; the queries' are in Answered), with slices of any contents.
 use Prim.Native.Nat.{ℕ}
 use mathlib.Core.Bool.{Bool}
 use mathlib.Core.List.{List}
 use contract.Lifetimes.{Lfts}
-use denote.Triple.Clauses.{AtExit}
 use denote.Ref.{RefT, now}
 use lib.Dec.{T, ltb}
 use lib.ListN.{length}
-use borrow.Fn.Kinds.{PK, RK, Out, Dens, resT, endedOf}
 use Rattle.console.specs.declared.Cgb.{Cgb}
 use Rattle.bus.specs.declared.arbitration.ArbitrationInput.{ArbitrationInput}
 use Rattle.bus.specs.declared.commit.BusInput.{BusInput}
 use Rattle.fall_edge.specs.declared.FallInput.{FallInput}
 use Rattle.registers.specs.declared.WriteInput.{WriteInput}
 use Rattle.speed_switch.specs.declared.switch.SwitchInput.{SwitchInput}
-use Rattle.answers.specs.Answers.{byteSays, flagSays, tallySays, statusSays, claimSays, conflictSays}
+use Rattle.answers.specs.Answers.{Said, byteSays, conflictSays}
 use Rattle.bus_calls.specs.BusCall.{lengthsOf}
 use Rattle.answers.specs.declared.Arbitrated.{Arbitrated}
 use Rattle.answers.specs.declared.Bussed.{Bussed}
 use Rattle.answers.specs.declared.ByteAnswer.{ByteAnswer}
-use Rattle.answers.specs.declared.ClaimAnswer.{ClaimAnswer}
 use Rattle.answers.specs.declared.ConflictAnswer.{ConflictAnswer}
 use Rattle.answers.specs.declared.Done.{Done}
 use Rattle.answers.specs.declared.Fell.{Fell}
-use Rattle.answers.specs.declared.FlagAnswer.{FlagAnswer}
 use Rattle.answers.specs.declared.Flagged.{Flagged}
 use Rattle.answers.specs.declared.Handed.{Handed}
-use Rattle.answers.specs.declared.StatusAnswer.{StatusAnswer}
 use Rattle.answers.specs.declared.Switched.{Switched}
-use Rattle.answers.specs.declared.TallyAnswer.{TallyAnswer}
+use Rattle.call.specs.declared.query.Query.{Query}
 use Rattle.engine.proofs.power_on.Kinds as power-on-kinds
 use Rattle.engine.proofs.power_on.Reads as power-on-reads
-use Rattle.bus_calls.proofs.access.write.Kinds as write-kinds
-use Rattle.bus_calls.proofs.access.write.Reads as write-reads
-use Rattle.bus_calls.proofs.access.read.Kinds as read-kinds
-use Rattle.bus_calls.proofs.access.read.Reads as read-reads
-use Rattle.engine.proofs.fall.vram_dma_fall_edge.Kinds as vram-dma-fall-edge-kinds
-use Rattle.engine.proofs.fall.vram_dma_fall_edge.Reads as vram-dma-fall-edge-reads
-use Rattle.engine.proofs.pair.next_byte.Kinds as next-byte-kinds
-use Rattle.engine.proofs.pair.next_byte.Reads as next-byte-reads
-use Rattle.engine.proofs.pair.vram_dma_drain_escape.Kinds as vram-dma-drain-escape-kinds
-use Rattle.engine.proofs.pair.vram_dma_drain_escape.Reads as vram-dma-drain-escape-reads
-use Rattle.bus_calls.proofs.bus_call.vram_dma_commit_bytes.Kinds as vram-dma-commit-bytes-kinds
-use Rattle.bus_calls.proofs.bus_call.vram_dma_commit_bytes.Reads as vram-dma-commit-bytes-reads
-use Rattle.engine.proofs.speed.attempt_speed_switch.Kinds as attempt-speed-switch-kinds
-use Rattle.engine.proofs.speed.attempt_speed_switch.Reads as attempt-speed-switch-reads
-use Rattle.engine.proofs.lcd.vram_dma_lcd_disabled.Kinds as vram-dma-lcd-disabled-kinds
-use Rattle.engine.proofs.lcd.vram_dma_lcd_disabled.Reads as vram-dma-lcd-disabled-reads
-use Rattle.engine.proofs.lcd.vram_dma_instruction_retired.Kinds as vram-dma-instruction-retired-kinds
-use Rattle.engine.proofs.lcd.vram_dma_instruction_retired.Reads as vram-dma-instruction-retired-reads
-use Rattle.engine.proofs.speed.drain_speed_switch_blackout.Kinds as drain-speed-switch-blackout-kinds
-use Rattle.engine.proofs.speed.drain_speed_switch_blackout.Reads as drain-speed-switch-blackout-reads
-use Rattle.engine.proofs.speed.speed_switch_wake_ready.Kinds as speed-switch-wake-ready-kinds
-use Rattle.engine.proofs.speed.speed_switch_wake_ready.Reads as speed-switch-wake-ready-reads
-use Rattle.bus_calls.proofs.shared_bus.vram_dma_arbitrate_oam.Kinds as vram-dma-arbitrate-oam-kinds
-use Rattle.bus_calls.proofs.shared_bus.vram_dma_arbitrate_oam.Reads as vram-dma-arbitrate-oam-reads
-use Rattle.bus_calls.proofs.shared_bus.vram_dma_conflict_source.Kinds as vram-dma-conflict-source-kinds
-use Rattle.bus_calls.proofs.shared_bus.vram_dma_conflict_source.Reads as vram-dma-conflict-source-reads
-use Rattle.queries.proofs.tally.Kinds as tally-kinds
-use Rattle.queries.proofs.tally.Reads as tally-reads
-use Rattle.queries.proofs.vram_dma_status.Kinds as vram-dma-status-kinds
-use Rattle.queries.proofs.vram_dma_status.Reads as vram-dma-status-reads
-use Rattle.queries.proofs.vram_dma_claim.Kinds as vram-dma-claim-kinds
-use Rattle.queries.proofs.vram_dma_claim.Reads as vram-dma-claim-reads
-use Rattle.queries.proofs.vram_dma_park_waits_for_fetch.Kinds as vram-dma-park-waits-for-fetch-kinds
-use Rattle.queries.proofs.vram_dma_park_waits_for_fetch.Reads as vram-dma-park-waits-for-fetch-reads
-use Rattle.queries.proofs.vram_dma_request_standing.Kinds as vram-dma-request-standing-kinds
-use Rattle.queries.proofs.vram_dma_request_standing.Reads as vram-dma-request-standing-reads
-use Rattle.queries.proofs.vram_dma_holds_cpu.Kinds as vram-dma-holds-cpu-kinds
-use Rattle.queries.proofs.vram_dma_holds_cpu.Reads as vram-dma-holds-cpu-reads
-use Rattle.queries.proofs.vram_dma_seizes_bus.Kinds as vram-dma-seizes-bus-kinds
-use Rattle.queries.proofs.vram_dma_seizes_bus.Reads as vram-dma-seizes-bus-reads
-use Rattle.queries.proofs.speed_switch_in_progress.Kinds as speed-switch-in-progress-kinds
-use Rattle.queries.proofs.speed_switch_in_progress.Reads as speed-switch-in-progress-reads
-use Rattle.queries.proofs.speed_switch_divider_active.Kinds as speed-switch-divider-active-kinds
-use Rattle.queries.proofs.speed_switch_divider_active.Reads as speed-switch-divider-active-reads
-use Rattle.queries.proofs.double_speed.Kinds as double-speed-kinds
-use Rattle.queries.proofs.double_speed.Reads as double-speed-reads
-use Rattle.queries.proofs.cpu_steps_per_dot.Kinds as cpu-steps-per-dot-kinds
-use Rattle.queries.proofs.cpu_steps_per_dot.Reads as cpu-steps-per-dot-reads
-use Rattle.queries.proofs.wram_bank.Kinds as wram-bank-kinds
-use Rattle.queries.proofs.wram_bank.Reads as wram-bank-reads
-use Rattle.queries.proofs.svbk_register.Kinds as svbk-register-kinds
-use Rattle.queries.proofs.svbk_register.Reads as svbk-register-reads
+pub use Rattle.ledger.specs.Function.{Function, Gives}
+use Rattle.ledger.specs.Functions.{write, read, vram-dma-fall-edge, next-byte, vram-dma-drain-escape, vram-dma-commit-bytes}
+use Rattle.ledger.specs.Functions.{attempt-speed-switch, vram-dma-lcd-disabled, vram-dma-instruction-retired}
+use Rattle.ledger.specs.Functions.{drain-speed-switch-blackout, speed-switch-wake-ready, vram-dma-arbitrate-oam}
+use Rattle.ledger.specs.Functions.{vram-dma-conflict-source}
+use Rattle.ledger.specs.Answered.{Answered}
 use Rattle.ledger.specs.Calls
 use Rattle.ledger.specs.Calls.{Call, Outcome, plain, ofDone, ofFlagged, ofFell, ofArbitrated, ofHanded, ofSwitched, ofBussed}
 
--- a function: its parameters, its result, and what its contract tells a caller
-pub record Function : Type 3 where
-  pub lifetimes : ℕ
-  pub parameters : List (PK lifetimes)
-  pub result : RK lifetimes
-  pub tells : Out lifetimes parameters result
-
--- called with a, f may return z
-pub record Gives (f : Function) (κs : Lfts (f .lifetimes)) (a : Dens κs (f .parameters)) (z : resT (f .result) κs .Denot) : Type 0 where
-  pub exit : AtExit (endedOf (f .lifetimes) (f .parameters) (f .result)) κs
-  pub told : f .tells κs a z exit
-
 abbrev pub power-on : Function
 power-on = record { lifetimes = 0; parameters = power-on-kinds.ps; result = power-on-kinds.r; tells = power-on-reads.Learnt }
-
-abbrev pub write : Function
-write = record { lifetimes = 1; parameters = write-kinds.ps; result = write-kinds.r; tells = write-reads.Learnt }
-
-abbrev pub read : Function
-read = record { lifetimes = 1; parameters = read-kinds.ps; result = read-kinds.r; tells = read-reads.Learnt }
-
-abbrev pub vram-dma-fall-edge : Function
-vram-dma-fall-edge = record { lifetimes = 0; parameters = vram-dma-fall-edge-kinds.ps; result = vram-dma-fall-edge-kinds.r; tells = vram-dma-fall-edge-reads.Learnt }
-
-abbrev pub next-byte : Function
-next-byte = record { lifetimes = 0; parameters = next-byte-kinds.ps; result = next-byte-kinds.r; tells = next-byte-reads.Learnt }
-
-abbrev pub vram-dma-drain-escape : Function
-vram-dma-drain-escape = record { lifetimes = 0; parameters = vram-dma-drain-escape-kinds.ps; result = vram-dma-drain-escape-kinds.r; tells = vram-dma-drain-escape-reads.Learnt }
-
-abbrev pub vram-dma-commit-bytes : Function
-vram-dma-commit-bytes = record { lifetimes = 4; parameters = vram-dma-commit-bytes-kinds.ps; result = vram-dma-commit-bytes-kinds.r; tells = vram-dma-commit-bytes-reads.Learnt }
-
-abbrev pub attempt-speed-switch : Function
-attempt-speed-switch = record { lifetimes = 0; parameters = attempt-speed-switch-kinds.ps; result = attempt-speed-switch-kinds.r; tells = attempt-speed-switch-reads.Learnt }
-
-abbrev pub vram-dma-lcd-disabled : Function
-vram-dma-lcd-disabled = record { lifetimes = 0; parameters = vram-dma-lcd-disabled-kinds.ps; result = vram-dma-lcd-disabled-kinds.r; tells = vram-dma-lcd-disabled-reads.Learnt }
-
-abbrev pub vram-dma-instruction-retired : Function
-vram-dma-instruction-retired = record { lifetimes = 0; parameters = vram-dma-instruction-retired-kinds.ps; result = vram-dma-instruction-retired-kinds.r; tells = vram-dma-instruction-retired-reads.Learnt }
-
-abbrev pub drain-speed-switch-blackout : Function
-drain-speed-switch-blackout = record { lifetimes = 0; parameters = drain-speed-switch-blackout-kinds.ps; result = drain-speed-switch-blackout-kinds.r; tells = drain-speed-switch-blackout-reads.Learnt }
-
-abbrev pub speed-switch-wake-ready : Function
-speed-switch-wake-ready = record { lifetimes = 0; parameters = speed-switch-wake-ready-kinds.ps; result = speed-switch-wake-ready-kinds.r; tells = speed-switch-wake-ready-reads.Learnt }
-
-abbrev pub vram-dma-arbitrate-oam : Function
-vram-dma-arbitrate-oam = record { lifetimes = 0; parameters = vram-dma-arbitrate-oam-kinds.ps; result = vram-dma-arbitrate-oam-kinds.r; tells = vram-dma-arbitrate-oam-reads.Learnt }
-
-abbrev pub vram-dma-conflict-source : Function
-vram-dma-conflict-source = record { lifetimes = 0; parameters = vram-dma-conflict-source-kinds.ps; result = vram-dma-conflict-source-kinds.r; tells = vram-dma-conflict-source-reads.Learnt }
-
-abbrev pub tally : Function
-tally = record { lifetimes = 0; parameters = tally-kinds.ps; result = tally-kinds.r; tells = tally-reads.Learnt }
-
-abbrev pub vram-dma-status : Function
-vram-dma-status = record { lifetimes = 0; parameters = vram-dma-status-kinds.ps; result = vram-dma-status-kinds.r; tells = vram-dma-status-reads.Learnt }
-
-abbrev pub vram-dma-claim : Function
-vram-dma-claim = record { lifetimes = 0; parameters = vram-dma-claim-kinds.ps; result = vram-dma-claim-kinds.r; tells = vram-dma-claim-reads.Learnt }
-
-abbrev pub vram-dma-park-waits-for-fetch : Function
-vram-dma-park-waits-for-fetch = record { lifetimes = 0; parameters = vram-dma-park-waits-for-fetch-kinds.ps; result = vram-dma-park-waits-for-fetch-kinds.r; tells = vram-dma-park-waits-for-fetch-reads.Learnt }
-
-abbrev pub vram-dma-request-standing : Function
-vram-dma-request-standing = record { lifetimes = 0; parameters = vram-dma-request-standing-kinds.ps; result = vram-dma-request-standing-kinds.r; tells = vram-dma-request-standing-reads.Learnt }
-
-abbrev pub vram-dma-holds-cpu : Function
-vram-dma-holds-cpu = record { lifetimes = 0; parameters = vram-dma-holds-cpu-kinds.ps; result = vram-dma-holds-cpu-kinds.r; tells = vram-dma-holds-cpu-reads.Learnt }
-
-abbrev pub vram-dma-seizes-bus : Function
-vram-dma-seizes-bus = record { lifetimes = 0; parameters = vram-dma-seizes-bus-kinds.ps; result = vram-dma-seizes-bus-kinds.r; tells = vram-dma-seizes-bus-reads.Learnt }
-
-abbrev pub speed-switch-in-progress : Function
-speed-switch-in-progress = record { lifetimes = 0; parameters = speed-switch-in-progress-kinds.ps; result = speed-switch-in-progress-kinds.r; tells = speed-switch-in-progress-reads.Learnt }
-
-abbrev pub speed-switch-divider-active : Function
-speed-switch-divider-active = record { lifetimes = 0; parameters = speed-switch-divider-active-kinds.ps; result = speed-switch-divider-active-kinds.r; tells = speed-switch-divider-active-reads.Learnt }
-
-abbrev pub double-speed : Function
-double-speed = record { lifetimes = 0; parameters = double-speed-kinds.ps; result = double-speed-kinds.r; tells = double-speed-reads.Learnt }
-
-abbrev pub cpu-steps-per-dot : Function
-cpu-steps-per-dot = record { lifetimes = 0; parameters = cpu-steps-per-dot-kinds.ps; result = cpu-steps-per-dot-kinds.r; tells = cpu-steps-per-dot-reads.Learnt }
-
-abbrev pub wram-bank : Function
-wram-bank = record { lifetimes = 0; parameters = wram-bank-kinds.ps; result = wram-bank-kinds.r; tells = wram-bank-reads.Learnt }
-
-abbrev pub svbk-register : Function
-svbk-register = record { lifetimes = 0; parameters = svbk-register-kinds.ps; result = svbk-register-kinds.r; tells = svbk-register-reads.Learnt }
 
 -- at the state s, this call may return so
 pub data Returned (s : Cgb) : Call → Outcome → Type 0 where
@@ -202,16 +61,4 @@ pub data Returned (s : Cgb) : Call → Outcome → Type 0 where
   by-wake : (boundary : Bool) (r : Flagged) → Gives speed-switch-wake-ready tt (s, (boundary, tt)) r → Returned s (Calls.wake boundary) (ofFlagged r)
   by-arbitrate : (i : ArbitrationInput) (r : Arbitrated) → Gives vram-dma-arbitrate-oam tt (s, (i, tt)) r → Returned s (Calls.arbitrate i) (ofArbitrated r)
   by-conflict : (a : ℕ) (r : ConflictAnswer) → Gives vram-dma-conflict-source tt (s, (a, tt)) r → Returned s (Calls.conflict a) (plain (conflictSays r) s)
-  by-tally : (r : TallyAnswer) → Gives tally tt (s, tt) r → Returned s (Calls.query Calls.tally) (plain (tallySays r) s)
-  by-status : (r : StatusAnswer) → Gives vram-dma-status tt (s, tt) r → Returned s (Calls.query Calls.status) (plain (statusSays r) s)
-  by-claim : (r : ClaimAnswer) → Gives vram-dma-claim tt (s, tt) r → Returned s (Calls.query Calls.claim) (plain (claimSays r) s)
-  by-park : (r : FlagAnswer) → Gives vram-dma-park-waits-for-fetch tt (s, tt) r → Returned s (Calls.query Calls.park) (plain (flagSays r) s)
-  by-request : (r : FlagAnswer) → Gives vram-dma-request-standing tt (s, tt) r → Returned s (Calls.query Calls.request) (plain (flagSays r) s)
-  by-holds : (r : FlagAnswer) → Gives vram-dma-holds-cpu tt (s, tt) r → Returned s (Calls.query Calls.holds) (plain (flagSays r) s)
-  by-seizes : (r : FlagAnswer) → Gives vram-dma-seizes-bus tt (s, tt) r → Returned s (Calls.query Calls.seizes) (plain (flagSays r) s)
-  by-in-progress : (r : FlagAnswer) → Gives speed-switch-in-progress tt (s, tt) r → Returned s (Calls.query Calls.in-progress) (plain (flagSays r) s)
-  by-divider : (r : FlagAnswer) → Gives speed-switch-divider-active tt (s, tt) r → Returned s (Calls.query Calls.divider) (plain (flagSays r) s)
-  by-double-speed : (r : FlagAnswer) → Gives double-speed tt (s, tt) r → Returned s (Calls.query Calls.double-speed) (plain (flagSays r) s)
-  by-steps : (r : ByteAnswer) → Gives cpu-steps-per-dot tt (s, tt) r → Returned s (Calls.query Calls.steps) (plain (byteSays r) s)
-  by-bank : (r : ByteAnswer) → Gives wram-bank tt (s, tt) r → Returned s (Calls.query Calls.bank) (plain (byteSays r) s)
-  by-svbk : (r : ByteAnswer) → Gives svbk-register tt (s, tt) r → Returned s (Calls.query Calls.svbk) (plain (byteSays r) s)
+  by-query : (q : Query) (said : Said) → Answered s q said → Returned s (Calls.query q) (plain said s)
