@@ -37,42 +37,48 @@ use Rattle.engine.specs.Fall.{fallRefusal, fallenState, fallCallOf}
 use Rattle.answers.specs.Answers.{stateRefusal, byteAnswer}
 use Rattle.answers.specs.declared.ByteAnswer.the-variants as byte
 use Rattle.engine.specs.Speed.{defers, switchRefusal, switchCallOf, blackoutCallOf}
-use Rattle.ledger.specs.Ledger.{empty, followed, paid, paidAll, entered}
-use Rattle.ledger.specs.Calls.{step, seen}
+use Rattle.ledger.specs.Ledger.{empty, followed, afterPair, afterPairs, afterCall}
+use Rattle.ledger.specs.Calls.{step, ledgerInput}
 use Rattle.ledger.proofs.Bools.{and-left, and-right}
-use Rattle.ledger.specs.Cases.{World, start, live, after, vramRun, run, ff55-is, to, falls, heldBeside, lengths, upward, k1, K1, two-falls, K2, K3, k4, K4, k5, K5, k6, K6, K7, k8, Lent, first-lands, second-lands, K8, K10, Cases}
+use Rattle.ledger.specs.Cases.{Progress, compatMode, start, afterOne, afterCalls, vramRun, run, ff55-is, to, falls, heldBeside, lengths, addresses}
+use Rattle.ledger.specs.Cases.{k1, K1, two-falls, K2, K3, k4, K4, k5, K5, k6, K6, K7, k8, Lent, first-lands, second-lands, K8, K10, Cases}
 
--- lists of pairs are compared number by number
-abbrev same : List BytePair → List BytePair → Bool
+-- lists of addresses are compared number by number
+abbrev same : List (ℕ × ℕ) → List (ℕ × ℕ) → Bool
 same [] [] = true
 same [] (q ∷ qs) = false
 same (p ∷ ps) [] = false
-same (p ∷ ps) (q ∷ qs) = eqb (p .source) (q .source) && (eqb (p .dest) (q .dest) && same ps qs)
+same (p ∷ ps) (q ∷ qs) = eqb (p .0) (q .0) && (eqb (p .1) (q .1) && same ps qs)
 
-is-same : (ps qs : List BytePair) → same ps qs ≡ true → ps ≡ qs
+is-same : (ps qs : List (ℕ × ℕ)) → same ps qs ≡ true → ps ≡ qs
 is-same [] [] h = refl
 is-same [] (q ∷ qs) h = absurd (false≢true h)
 is-same (p ∷ ps) [] h = absurd (false≢true h)
 is-same (p ∷ ps) (q ∷ qs) h =
-    let rest = and-right (eqb (p .source) (q .source)) (eqb (p .dest) (q .dest) && same ps qs) h in
-    let source = eqb-true (p .source) (q .source) (and-left (eqb (p .source) (q .source)) (eqb (p .dest) (q .dest) && same ps qs) h) in
-    let dest = eqb-true (p .dest) (q .dest) (and-left (eqb (p .dest) (q .dest)) (same ps qs) rest) in
-    ap (λ (x : BytePair). x ∷ ps) (λ i. record { source = source i; dest = dest i })
-    ∙ ap (λ (xs : List BytePair). q ∷ xs) (is-same ps qs (and-right (eqb (p .dest) (q .dest)) (same ps qs) rest))
+    let rest = and-right (eqb (p .0) (q .0)) (eqb (p .1) (q .1) && same ps qs) h in
+    let source = eqb-true (p .0) (q .0) (and-left (eqb (p .0) (q .0)) (eqb (p .1) (q .1) && same ps qs) h) in
+    let dest = eqb-true (p .1) (q .1) (and-left (eqb (p .1) (q .1)) (same ps qs) rest) in
+    ap (λ (x : ℕ × ℕ). x ∷ ps) (λ i. (source i, dest i))
+    ∙ ap (λ (xs : List (ℕ × ℕ)). q ∷ xs) (is-same ps qs (and-right (eqb (p .1) (q .1)) (same ps qs) rest))
 
 -- a read of FF55 looks at no more of the work RAM than its length
-ff55-by : (v : ℕ) (w : World) → byteAnswer (accessRefusal (w .engine) wramLength 0xFF55) (byteAt (w .engine) [] (placeOf 0xFF55)) ≡ byte.Byte v → ff55-is v w
+ff55-by :
+    (v : ℕ) (w : Progress) →
+    byteAnswer (accessRefusal (w .engine) wramLength 0xFF55) (byteAt (w .engine) [] (placeOf 0xFF55)) ≡ byte.Byte v → ff55-is v w
 unfolding readOf placeOf
 ff55-by v w h wram sized =
     ap (λ (n : ℕ). byteAnswer (accessRefusal (w .engine) n 0xFF55) (byteAt (w .engine) [] (placeOf 0xFF55))) sized ∙ h
 
 -- and a bus call's deposit at no more of the four slices than their lengths
-at-exit : (s : Cgb) (edge : ℕ) (m : Lent) (last : List ℕ) → busOam s (heldBeside edge) lengths (m .cartridge) (m .wram) (m .oam) ≡ last → busOam s (heldBeside edge) (lengthsOf (m .cartridge) (m .wram) (m .vram) (m .oam)) (m .cartridge) (m .wram) (m .oam) ≡ last
+at-exit :
+    (s : Cgb) (edge : ℕ) (m : Lent) (last : List ℕ) →
+    busOam s (heldBeside edge) lengths (m .cartridge) (m .wram) (m .oam) ≡ last →
+    busOam s (heldBeside edge) (lengthsOf (m .cartridge) (m .wram) (m .vram) (m .oam)) (m .cartridge) (m .wram) (m .oam) ≡ last
 at-exit s edge m last h =
     ap (λ (n : Lengths). busOam s (heldBeside edge) n (m .cartridge) (m .wram) (m .oam)) (m .sized) ∙ h
 
 case1 : (mode : ℕ) → mode < 4 → K1 mode
-unfolding start live after step seen writeOf accessRefusal unreached placeOf mapWriteOf storedOf locksAt hdma5Written armedOf cancelledOf startedOf statusByte powerOnOf dmaAtRest entered paidAll followed empty fallCallOf fallRefusal fallenState fallOf viewOf ranOf decidedOf stages.startedOf servedOf observedArb observedOf judgedBlock ungrantedArb probationOf droppedBlock haltLatchArb haltLatchOf agedArb pendedArb grants grantedArb gatedOf refilledOf blindsArb blindsOf commitBlock commitArb commitOf tenureArb tenureOf pendArb pendOf readyBlock readinessOf seizedBlock seizureOf settledOf movingOf seizesBus busAnswer busRefusal wrongLengths busPairs busState busTaken pairsOf takenOf nextByteOf advancedOf cursorAfter blockAfter arbAfter paid vramRun busVram vramAfter sourceByte
+unfolding start afterOne afterCalls step ledgerInput writeOf accessRefusal unreached placeOf mapWriteOf storedOf locksAt hdma5Written armedOf cancelledOf startedOf statusByte powerOnOf dmaAtRest afterCall afterPairs followed empty fallCallOf fallRefusal fallenState fallOf viewOf ranOf decidedOf stages.startedOf servedOf observedArb observedOf judgedBlock ungrantedArb probationOf droppedBlock haltLatchArb haltLatchOf agedArb pendedArb grants grantedArb gatedOf refilledOf blindsArb blindsOf commitBlock commitArb commitOf tenureArb tenureOf pendArb pendOf readyBlock readinessOf seizedBlock seizureOf settledOf movingOf seizesBus busAnswer busRefusal wrongLengths busPairs busState busTaken pairsOf takenOf nextByteOf advancedOf cursorAfter blockAfter arbAfter afterPair vramRun busVram vramAfter sourceByte
 case1 zero h = record { moved = is-same _ _ refl; reads = ff55-by 0xFF (k1 0) refl; counted = (refl, refl); stored = λ cartridge wram vram. refl }
 case1 (suc zero) h = record { moved = is-same _ _ refl; reads = ff55-by 0xFF (k1 1) refl; counted = (refl, refl); stored = λ cartridge wram vram. refl }
 case1 (suc (suc zero)) h = record { moved = is-same _ _ refl; reads = ff55-by 0xFF (k1 2) refl; counted = (refl, refl); stored = λ cartridge wram vram. refl }
@@ -80,31 +86,31 @@ case1 (suc (suc (suc zero))) h = record { moved = is-same _ _ refl; reads = ff55
 case1 (suc (suc (suc (suc m)))) h = absurd (omega arith)
 
 case2 : K2
-unfolding start live after step seen writeOf accessRefusal unreached placeOf mapWriteOf storedOf locksAt hdma5Written armedOf cancelledOf startedOf statusByte powerOnOf dmaAtRest entered paidAll followed empty fallCallOf fallRefusal fallenState fallOf viewOf ranOf decidedOf stages.startedOf servedOf observedArb observedOf judgedBlock ungrantedArb probationOf droppedBlock haltLatchArb haltLatchOf agedArb pendedArb grants grantedArb gatedOf refilledOf blindsArb blindsOf commitBlock commitArb commitOf tenureArb tenureOf pendArb pendOf readyBlock readinessOf seizedBlock seizureOf settledOf movingOf seizesBus busAnswer busRefusal wrongLengths busPairs busState busTaken pairsOf takenOf nextByteOf advancedOf cursorAfter blockAfter arbAfter paid
+unfolding start afterOne afterCalls step ledgerInput writeOf accessRefusal unreached placeOf mapWriteOf storedOf locksAt hdma5Written armedOf cancelledOf startedOf statusByte powerOnOf dmaAtRest afterCall afterPairs followed empty fallCallOf fallRefusal fallenState fallOf viewOf ranOf decidedOf stages.startedOf servedOf observedArb observedOf judgedBlock ungrantedArb probationOf droppedBlock haltLatchArb haltLatchOf agedArb pendedArb grants grantedArb gatedOf refilledOf blindsArb blindsOf commitBlock commitArb commitOf tenureArb tenureOf pendArb pendOf readyBlock readinessOf seizedBlock seizureOf settledOf movingOf seizesBus busAnswer busRefusal wrongLengths busPairs busState busTaken pairsOf takenOf nextByteOf advancedOf cursorAfter blockAfter arbAfter afterPair
 case2 = record { second = ff55-by 0x00 (run (two-falls 0x80 tt)) refl; third = ff55-by 0xFF (run (two-falls 0x80 tt ++ (falls 0 ∷ []))) refl; fourth = refl; fifth = refl; moved = is-same _ _ refl }
 
 case3 : K3
-unfolding start live after step seen writeOf accessRefusal unreached placeOf mapWriteOf storedOf locksAt hdma5Written armedOf cancelledOf startedOf statusByte powerOnOf dmaAtRest entered paidAll followed empty
+unfolding start afterOne afterCalls step ledgerInput writeOf accessRefusal unreached placeOf mapWriteOf storedOf locksAt hdma5Written armedOf cancelledOf startedOf statusByte powerOnOf dmaAtRest afterCall afterPairs followed empty
 case3 = record { reads = ff55-by 0x80 (run (to 0xFF55 0x83 tt ∷ to 0xFF55 0x00 tt ∷ [])) refl }
 
 case4 : K4
-unfolding start live after step seen writeOf accessRefusal unreached placeOf mapWriteOf storedOf locksAt hdma5Written armedOf cancelledOf startedOf statusByte powerOnOf dmaAtRest entered paidAll followed empty fallCallOf fallRefusal fallenState fallOf viewOf ranOf decidedOf stages.startedOf servedOf observedArb observedOf judgedBlock ungrantedArb probationOf droppedBlock haltLatchArb haltLatchOf agedArb pendedArb grants grantedArb gatedOf refilledOf blindsArb blindsOf commitBlock commitArb commitOf tenureArb tenureOf pendArb pendOf readyBlock readinessOf seizedBlock seizureOf settledOf movingOf seizesBus busAnswer busRefusal wrongLengths busPairs busState busTaken pairsOf takenOf nextByteOf advancedOf cursorAfter blockAfter arbAfter paid
+unfolding start afterOne afterCalls step ledgerInput writeOf accessRefusal unreached placeOf mapWriteOf storedOf locksAt hdma5Written armedOf cancelledOf startedOf statusByte powerOnOf dmaAtRest afterCall afterPairs followed empty fallCallOf fallRefusal fallenState fallOf viewOf ranOf decidedOf stages.startedOf servedOf observedArb observedOf judgedBlock ungrantedArb probationOf droppedBlock haltLatchArb haltLatchOf agedArb pendedArb grants grantedArb gatedOf refilledOf blindsArb blindsOf commitBlock commitArb commitOf tenureArb tenureOf pendArb pendOf readyBlock readinessOf seizedBlock seizureOf settledOf movingOf seizesBus busAnswer busRefusal wrongLengths busPairs busState busTaken pairsOf takenOf nextByteOf advancedOf cursorAfter blockAfter arbAfter afterPair
 case4 = record { moved = is-same _ _ refl; cut-off = refl; left = refl }
 
 case5 : K5
-unfolding start live after step seen writeOf accessRefusal unreached placeOf mapWriteOf storedOf locksAt hdma5Written armedOf cancelledOf startedOf statusByte powerOnOf dmaAtRest entered paidAll followed empty fallCallOf fallRefusal fallenState fallOf viewOf ranOf decidedOf stages.startedOf servedOf observedArb observedOf judgedBlock ungrantedArb probationOf droppedBlock haltLatchArb haltLatchOf agedArb pendedArb grants grantedArb gatedOf refilledOf blindsArb blindsOf commitBlock commitArb commitOf tenureArb tenureOf pendArb pendOf readyBlock readinessOf seizedBlock seizureOf settledOf movingOf seizesBus busAnswer busRefusal wrongLengths busPairs busState busTaken pairsOf takenOf nextByteOf advancedOf cursorAfter blockAfter arbAfter paid
+unfolding start afterOne afterCalls step ledgerInput writeOf accessRefusal unreached placeOf mapWriteOf storedOf locksAt hdma5Written armedOf cancelledOf startedOf statusByte powerOnOf dmaAtRest afterCall afterPairs followed empty fallCallOf fallRefusal fallenState fallOf viewOf ranOf decidedOf stages.startedOf servedOf observedArb observedOf judgedBlock ungrantedArb probationOf droppedBlock haltLatchArb haltLatchOf agedArb pendedArb grants grantedArb gatedOf refilledOf blindsArb blindsOf commitBlock commitArb commitOf tenureArb tenureOf pendArb pendOf readyBlock readinessOf seizedBlock seizureOf settledOf movingOf seizesBus busAnswer busRefusal wrongLengths busPairs busState busTaken pairsOf takenOf nextByteOf advancedOf cursorAfter blockAfter arbAfter afterPair
 case5 = record { moved = is-same _ _ refl; cut-off = refl }
 
 case6 : K6
-unfolding start live after step seen writeOf accessRefusal unreached placeOf mapWriteOf storedOf locksAt hdma5Written armedOf cancelledOf startedOf statusByte powerOnOf dmaAtRest entered paidAll followed empty fallCallOf fallRefusal fallenState fallOf viewOf ranOf decidedOf stages.startedOf servedOf observedArb observedOf judgedBlock ungrantedArb probationOf droppedBlock haltLatchArb haltLatchOf agedArb pendedArb grants grantedArb gatedOf refilledOf blindsArb blindsOf commitBlock commitArb commitOf tenureArb tenureOf pendArb pendOf readyBlock readinessOf seizedBlock seizureOf settledOf movingOf seizesBus busAnswer busRefusal wrongLengths busPairs busState busTaken pairsOf takenOf nextByteOf advancedOf cursorAfter blockAfter arbAfter paid switchCallOf switchRefusal switchedOf defers switch.readyBlock outcomeOf ungranted cutOf discardedOf gradedOf upwardOf engineAfter blackoutOf blackoutCallOf drainedOf stateRefusal
+unfolding start afterOne afterCalls step ledgerInput writeOf accessRefusal unreached placeOf mapWriteOf storedOf locksAt hdma5Written armedOf cancelledOf startedOf statusByte powerOnOf dmaAtRest afterCall afterPairs followed empty fallCallOf fallRefusal fallenState fallOf viewOf ranOf decidedOf stages.startedOf servedOf observedArb observedOf judgedBlock ungrantedArb probationOf droppedBlock haltLatchArb haltLatchOf agedArb pendedArb grants grantedArb gatedOf refilledOf blindsArb blindsOf commitBlock commitArb commitOf tenureArb tenureOf pendArb pendOf readyBlock readinessOf seizedBlock seizureOf settledOf movingOf seizesBus busAnswer busRefusal wrongLengths busPairs busState busTaken pairsOf takenOf nextByteOf advancedOf cursorAfter blockAfter arbAfter afterPair switchCallOf switchRefusal switchedOf defers switch.readyBlock outcomeOf ungranted cutOf discardedOf gradedOf upwardOf engineAfter blackoutOf blackoutCallOf drainedOf stateRefusal
 case6 = record { cut = refl; moved = is-same _ _ refl; free = refl; left = (refl, refl); reads = ff55-by 0x80 k6 refl }
 
 case7 : K7
-unfolding start live after step seen writeOf accessRefusal unreached placeOf mapWriteOf storedOf locksAt hdma5Written armedOf cancelledOf startedOf statusByte powerOnOf dmaAtRest entered paidAll followed empty switchCallOf switchRefusal switchedOf defers switch.readyBlock outcomeOf ungranted cutOf discardedOf gradedOf upwardOf engineAfter blackoutOf blackoutCallOf drainedOf stateRefusal
+unfolding start afterOne afterCalls step ledgerInput writeOf accessRefusal unreached placeOf mapWriteOf storedOf locksAt hdma5Written armedOf cancelledOf startedOf statusByte powerOnOf dmaAtRest afterCall afterPairs followed empty switchCallOf switchRefusal switchedOf defers switch.readyBlock outcomeOf ungranted cutOf discardedOf gradedOf upwardOf engineAfter blackoutOf blackoutCallOf drainedOf stateRefusal
 case7 = record { up = refl; down = refl; again = refl }
 
 case8 : K8
-unfolding start live after step seen writeOf accessRefusal unreached placeOf mapWriteOf storedOf locksAt hdma5Written armedOf cancelledOf startedOf statusByte powerOnOf dmaAtRest entered paidAll followed empty fallCallOf fallRefusal fallenState fallOf viewOf ranOf decidedOf stages.startedOf servedOf observedArb observedOf judgedBlock ungrantedArb probationOf droppedBlock haltLatchArb haltLatchOf agedArb pendedArb grants grantedArb gatedOf refilledOf blindsArb blindsOf commitBlock commitArb commitOf tenureArb tenureOf pendArb pendOf readyBlock readinessOf seizedBlock seizureOf settledOf movingOf seizesBus busAnswer busRefusal wrongLengths busPairs busState busTaken pairsOf takenOf nextByteOf advancedOf cursorAfter blockAfter arbAfter paid busOam oamAfter bytesOf deposited sourceByte oamWith arbitrationCallOf arbitratedOf arbitrationOf contends stalls willMove stateRefusal
+unfolding start afterOne afterCalls step ledgerInput writeOf accessRefusal unreached placeOf mapWriteOf storedOf locksAt hdma5Written armedOf cancelledOf startedOf statusByte powerOnOf dmaAtRest afterCall afterPairs followed empty fallCallOf fallRefusal fallenState fallOf viewOf ranOf decidedOf stages.startedOf servedOf observedArb observedOf judgedBlock ungrantedArb probationOf droppedBlock haltLatchArb haltLatchOf agedArb pendedArb grants grantedArb gatedOf refilledOf blindsArb blindsOf commitBlock commitArb commitOf tenureArb tenureOf pendArb pendOf readyBlock readinessOf seizedBlock seizureOf settledOf movingOf seizesBus busAnswer busRefusal wrongLengths busPairs busState busTaken pairsOf takenOf nextByteOf advancedOf cursorAfter blockAfter arbAfter afterPair busOam oamAfter bytesOf deposited sourceByte oamWith arbitrationCallOf arbitratedOf arbitrationOf contends stalls willMove stateRefusal
 case8 =
     record {
       block-edge = refl;
@@ -119,8 +125,8 @@ case8 =
     }
 
 case10 : K10
-unfolding start live after step seen writeOf accessRefusal unreached placeOf mapWriteOf storedOf locksAt hdma5Written armedOf cancelledOf startedOf statusByte powerOnOf dmaAtRest entered paidAll followed empty
-case10 = record { reads = ff55-by 0xFF (after true (start true) (to 0xFF55 0x00 tt ∷ [])) refl }
+unfolding start afterOne afterCalls step ledgerInput writeOf accessRefusal unreached placeOf mapWriteOf storedOf locksAt hdma5Written armedOf cancelledOf startedOf statusByte powerOnOf dmaAtRest afterCall afterPairs followed empty
+case10 = record { reads = ff55-by 0xFF (afterCalls compatMode (start compatMode) (to 0xFF55 0x00 tt ∷ [])) refl }
 
 pub cases : Cases
 cases =

@@ -32,7 +32,7 @@ use Rattle.bus_calls.specs.BusCall.{Lengths, busRefusal, takenIn, busPairs}
 use Rattle.queries.specs.Query.{statusOf}
 use Rattle.answers.specs.Answers.{stateRefusal}
 use Rattle.answers.specs.declared.StatusAnswer.the-variants.{Status, Refused}
-use Rattle.ledger.specs.Demand3.{share}
+use Rattle.ledger.specs.Demand3.{generalPairs}
 
 -- a status of General is told in mode General alone
 general-mode : (m : TransferMode) (c : TransferCursor) (left : ℕ) → statusIn m c ≡ dma.General left → m ≡ mode.General
@@ -45,8 +45,9 @@ unfolding statusOf transfer.statusOf
 mode-of s left = by (eqb (stateRefusal s) 0)
   where
     by :
-        (b : Bool) → cond b (Status (statusIn (s .«vram_dma» .cursor .mode) (s .«vram_dma» .cursor))) (Refused (stateRefusal s)) ≡ Status (dma.General left) →
-        s .«vram_dma» .cursor .mode ≡ mode.General
+        (b : Bool) →
+        cond b (Status (statusIn (s .«vram_dma» .cursor .mode) (s .«vram_dma» .cursor))) (Refused (stateRefusal s)) ≡
+        Status (dma.General left) → s .«vram_dma» .cursor .mode ≡ mode.General
     by true h = general-mode (s .«vram_dma» .cursor .mode) (s .«vram_dma» .cursor) left (cc)
     by false h = cc
 
@@ -102,7 +103,7 @@ two d general some q = take-some 1 d r ∙ by (eqb (leftAfter (d .cursor)) 0) re
 -- after a fall: 2 at single speed, or 1 where the first brings left to 0, and 1 at double
 pub general-count :
     (s : Cgb) → unreached s ≡ false → s .«vram_dma» .cursor .quota ≡ quotaOf (movingOf (s .«vram_dma»)) (s .«double_speed») →
-    s .«vram_dma» .cursor .mode ≡ mode.General → length (pairsOf (s .«vram_dma») .pairs) ≡ share s
+    s .«vram_dma» .cursor .mode ≡ mode.General → length (pairsOf (s .«vram_dma») .pairs) ≡ generalPairs s
 unfolding pairsOf
 general-count s passes fresh general =
     by (s .«double_speed») (fresh ∙ ap (λ (m : Bool). quotaOf m (s .«double_speed»)) (general-moves (s .«vram_dma») general some))
@@ -112,7 +113,8 @@ general-count s passes fresh general =
 
     by :
         (double : Bool) → s .«vram_dma» .cursor .quota ≡ quotaOf true double →
-        length (takenOf (s .«vram_dma» .cursor .quota) (s .«vram_dma») .pairs) ≡ cond double 1 (cond (eqb (leftAfter (s .«vram_dma» .cursor)) 0) 1 2)
+        length (takenOf (s .«vram_dma» .cursor .quota) (s .«vram_dma») .pairs) ≡
+        cond double 1 (cond (eqb (leftAfter (s .«vram_dma» .cursor)) 0) 1 2)
     by true q = ap (λ (n : ℕ). length (takenOf n (s .«vram_dma») .pairs)) q ∙ one (s .«vram_dma») general some q
     by false q = ap (λ (n : ℕ). length (takenOf n (s .«vram_dma») .pairs)) q ∙ two (s .«vram_dma») general some q
 

@@ -18,16 +18,18 @@ use Rattle.bus_calls.specs.BusCall.{Lengths, lengthsOf, busOf, busVram, busOam}
 use Rattle.engine.specs.Fall.{fallCallOf}
 use Rattle.engine.specs.Lcd.{lcdCallOf, retiredCallOf}
 use Rattle.engine.specs.Pair.{nextPairOf, escapeDrainOf}
-use Rattle.queries.specs.Query.{flagOf, byteOf, tallyOf, statusOf, claimOf, parkWaits, requestStands, holdsCpu, seizesBus, switchInProgress, dividerRuns, atDoubleSpeed, cpuSteps, bankSelected, svbkWritten}
+use Rattle.queries.specs.Query.{flagOf, byteOf, tallyOf, statusOf, claimOf, parkWaits, requestStands, holdsCpu, seizesBus}
+use Rattle.queries.specs.Query.{switchInProgress, dividerRuns, atDoubleSpeed, cpuSteps, bankSelected, svbkWritten}
 use Rattle.engine.specs.Speed.{switchCallOf, blackoutCallOf, wakeCallOf}
 use Rattle.ledger.specs.Calls
 use Rattle.ledger.specs.Calls.{Call, Outcome, step}
 use Rattle.ledger.specs.Code
 use Rattle.ledger.specs.Code.{Returned}
-use Rattle.ledger.specs.Demand3.{History, from-power-on, then, Runs, at-power-on, called, Event}
-use Rattle.ledger.specs.OneRun.{compatOf, callsOf, RunOf, OneRun}
+use Rattle.ledger.specs.LedgerInput.{Configuration}
+use Rattle.ledger.specs.Demand3.{History, from-power-on, then, RunsTo, at-power-on, called, Event}
+use Rattle.ledger.specs.OneRun.{configurationOf, callsOf, RunOf, OneRun}
 use Rattle.ledger.proofs.Tied.{returned-step}
-use Rattle.ledger.proofs.Told as told
+use Rattle.ledger.proofs.AnswerValues as told
 
 -- a slice of these bytes
 slice : List ℕ → RefT (List ℕ)
@@ -39,9 +41,10 @@ slice bytes = record { ptr = (0, 0); name = 0; now = bytes }
 κ4 : Lfts 4
 κ4 = ([], ([], ([], ([], tt))))
 
-record Some (s : Cgb) (c : Call) : Type 0 where
-  outcome : Outcome
-  returned : Returned s c outcome
+-- what a call may return
+pub record Some (s : Cgb) (c : Call) : Type 0 where
+  pub outcome : Outcome
+  pub returned : Returned s c outcome
 
 -- some list has the length n
 sized : (P : ℕ → Type 0) (n : ℕ) → ((bytes : List ℕ) → P (length bytes)) → P n
@@ -84,7 +87,7 @@ module _ (s : Cgb) where
             });
       }
 
-  some-call : (c : Call) → Some s c
+  pub some-call : (c : Call) → Some s c
   some-call (Calls.write a w n byte) = sized (λ k. Some s (Calls.write a w k byte)) n (write-some a w byte)
   some-call (Calls.read a n) = sized (λ k. Some s (Calls.read a k)) n (read-some a)
   some-call (Calls.bus-call i n) =
@@ -117,60 +120,68 @@ module _ (s : Cgb) where
   some-call (Calls.query Calls.bank) = record { outcome = _; returned = Code.by-bank (byteOf s (bankSelected s)) (record { exit = (s, tt); told = record { is = refl; says = told.byte-told s (bankSelected s) } }) }
   some-call (Calls.query Calls.svbk) = record { outcome = _; returned = Code.by-svbk (byteOf s (svbkWritten s)) (record { exit = (s, tt); told = record { is = refl; says = told.byte-told s (svbkWritten s) } }) }
 
-some : (compat : Bool) (calls : List Call) → RunOf compat calls
-some compat [] =
-    record { history = from-power-on compat; state = powerOnOf compat; runs = at-power-on compat (powerOnOf compat) (record { exit = (compat, tt); told = refl }); flag = refl; list = refl }
-some compat (c ∷ cs) =
-    let r = some compat cs in
+some : (k : Configuration) (calls : List Call) → RunOf k calls
+some k [] =
+    record {
+      history = from-power-on k;
+      state = powerOnOf (k .compat);
+      runs = at-power-on k (powerOnOf (k .compat)) (record { exit = (k .compat, tt); told = refl });
+      fixed = refl;
+      list = refl;
+    }
+some k (c ∷ cs) =
+    let r = some k cs in
     let o = some-call (r .state) c in
     record {
       history = then (r .history) (record { call = c; reply = o .outcome .reply });
       state = o .outcome .state;
       runs = called c (o .outcome) (r .runs) (o .returned);
-      flag = r .flag;
+      fixed = r .fixed;
       list = ap (λ (xs : List Call). c ∷ xs) (r .list);
     }
 
 -- what the definitions give for a list of calls, newest first
-stateAfter : Bool → List Call → Cgb
-stateAfter compat [] = powerOnOf compat
-stateAfter compat (c ∷ cs) = step (stateAfter compat cs) c .state
+stateAfter : Configuration → List Call → Cgb
+stateAfter k [] = powerOnOf (k .compat)
+stateAfter k (c ∷ cs) = step (stateAfter k cs) c .state
 
-historyOf : Bool → List Call → History
-historyOf compat [] = from-power-on compat
-historyOf compat (c ∷ cs) = then (historyOf compat cs) (record { call = c; reply = step (stateAfter compat cs) c .reply })
+historyOf : Configuration → List Call → History
+historyOf k [] = from-power-on k
+historyOf k (c ∷ cs) = then (historyOf k cs) (record { call = c; reply = step (stateAfter k cs) c .reply })
 
-is-state : {h : History} {s : Cgb} → Runs h s → s ≡ stateAfter (compatOf h) (callsOf h)
+is-state : {h : History} {s : Cgb} → RunsTo h s → s ≡ stateAfter (configurationOf h) (callsOf h)
 unfolding stateAfter
-is-state (at-power-on compat s g) = g .told
-is-state (called {h = h} {s = s} c o k r) = ap (λ (x : Outcome). x .state) (returned-step r) ∙ ap (λ (x : Cgb). step x c .state) (is-state k)
+is-state (at-power-on k s g) = g .told
+is-state (called {h = h} {s = s} c o r returned) =
+    ap (λ (x : Outcome). x .state) (returned-step returned) ∙ ap (λ (x : Cgb). step x c .state) (is-state r)
 
 -- a history leaves one state
-pub same-state : {h : History} {s t : Cgb} → Runs h s → Runs h t → s ≡ t
+pub same-state : {h : History} {s t : Cgb} → RunsTo h s → RunsTo h t → s ≡ t
 same-state a b = is-state a ∙ sym (is-state b)
 
-is-history : {h : History} {s : Cgb} → Runs h s → h ≡ historyOf (compatOf h) (callsOf h)
+is-history : {h : History} {s : Cgb} → RunsTo h s → h ≡ historyOf (configurationOf h) (callsOf h)
 unfolding historyOf
-is-history (at-power-on compat s g) = refl
-is-history (called {h = h} {s = s} c o k r) =
-    ap (λ (x : Outcome). then h (record { call = c; reply = x .reply })) (returned-step r)
-    ∙ ap (λ (x : Cgb). then h (record { call = c; reply = step x c .reply })) (is-state k)
-    ∙ ap (λ (x : History). then x (record { call = c; reply = step (stateAfter (compatOf h) (callsOf h)) c .reply })) (is-history k)
+is-history (at-power-on k s g) = refl
+is-history (called {h = h} {s = s} c o r returned) =
+    ap (λ (x : Outcome). then h (record { call = c; reply = x .reply })) (returned-step returned)
+    ∙ ap (λ (x : Cgb). then h (record { call = c; reply = step x c .reply })) (is-state r)
+    ∙ ap (λ (x : History). then x (record { call = c; reply = step (stateAfter (configurationOf h) (callsOf h)) c .reply }))
+    (is-history r)
 
-only-history : (compat : Bool) (calls : List Call) (a : RunOf compat calls) → a .history ≡ historyOf compat calls
-only-history compat calls a =
-    is-history (a .runs) ∙ ap (λ (f : Bool). historyOf f (callsOf (a .history))) (a .flag) ∙ ap (historyOf compat) (a .list)
+only-history : (k : Configuration) (calls : List Call) (a : RunOf k calls) → a .history ≡ historyOf k calls
+only-history k calls a =
+    is-history (a .runs) ∙ ap (λ (x : Configuration). historyOf x (callsOf (a .history))) (a .fixed) ∙ ap (historyOf k) (a .list)
 
-only-state : (compat : Bool) (calls : List Call) (a : RunOf compat calls) → a .state ≡ stateAfter compat calls
-only-state compat calls a =
-    is-state (a .runs) ∙ ap (λ (f : Bool). stateAfter f (callsOf (a .history))) (a .flag) ∙ ap (stateAfter compat) (a .list)
+only-state : (k : Configuration) (calls : List Call) (a : RunOf k calls) → a .state ≡ stateAfter k calls
+only-state k calls a =
+    is-state (a .runs) ∙ ap (λ (x : Configuration). stateAfter x (callsOf (a .history))) (a .fixed) ∙ ap (stateAfter k) (a .list)
 
 pub one-run : OneRun
 one-run =
     record {
       some = some;
-      only = λ compat calls a b. (
-        only-history compat calls a ∙ sym (only-history compat calls b),
-        only-state compat calls a ∙ sym (only-state compat calls b),
+      only = λ k calls a b. (
+        only-history k calls a ∙ sym (only-history k calls b),
+        only-state k calls a ∙ sym (only-state k calls b),
       );
     }

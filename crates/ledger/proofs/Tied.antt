@@ -2,7 +2,7 @@
 use Prim.Native.Nat.{ℕ, zero, suc, _≤_}
 use native.Mathlib.Omega.{arith}
 use mathlib.Core.Path.{_≡_, refl, sym, ap, _∙_}
-use mathlib.Core.Bool.{Bool, true, false, cond, false≢true}
+use mathlib.Core.Bool.{Bool, true, false, cond}
 use mathlib.Core.List.{List, [], _∷_}
 use lib.Dec.{eqb}
 use lib.ListN.{length, take}
@@ -11,10 +11,11 @@ use denote.Ref.{now}
 use Rattle.console.specs.Reached.{unreached}
 use Rattle.console.specs.declared.Cgb.{Cgb}
 use Rattle.console.specs.declared.vram_dma.VramDma.{VramDma}
+use Rattle.console.specs.Refusals.{Reason, _⇒_}
 use Rattle.console.proofs.Reached as seven
-use Rattle.bus.specs.Commit.{Taken, nothing, after, takenOf, pairsOf, holdsBus, setupStands, withCells, busTaken, firstTwo}
+use Rattle.console.proofs.Refusals.{none-holds}
+use Rattle.bus.specs.Commit.{Taken, after, takenOf, pairsOf, busTaken, firstTwo}
 use Rattle.bus.specs.declared.commit.BusInput.{BusInput}
-use Rattle.countdown.specs.Countdown.{ticked}
 use Rattle.transfer.specs.Pair.{nextByteOf}
 use Rattle.transfer.specs.declared.pair.BytePair.{BytePair}
 use Rattle.transfer.specs.declared.pair.NextAnswer.{NextAnswer}
@@ -22,7 +23,7 @@ use Rattle.transfer.specs.declared.pair.NextAnswer.the-variants as next
 use Rattle.bus.specs.Deposit.{noPair}
 use Rattle.bus_calls.specs.Access.{readSaid}
 use Rattle.answers.specs.Answers.{Said, busSays, byteSays, flagSays, tallySays, statusSays, claimSays, conflictSays}
-use Rattle.bus_calls.specs.BusCall.{Lengths, lengthsOf, wrongLengths, busRefusal, takenIn, busPairs, busAnswer, busState, busOf}
+use Rattle.bus_calls.specs.BusCall.{Lengths, lengthsOf, busRefusal, takenIn, busPairs, busAnswer, busState, busOf}
 use Rattle.answers.specs.declared.BusAnswer.the-variants.{Moved, Refused}
 use Rattle.answers.specs.declared.ByteAnswer.{ByteAnswer}
 use Rattle.answers.specs.declared.ClaimAnswer.{ClaimAnswer}
@@ -31,8 +32,12 @@ use Rattle.answers.specs.declared.FlagAnswer.{FlagAnswer}
 use Rattle.answers.specs.declared.StatusAnswer.{StatusAnswer}
 use Rattle.answers.specs.declared.TallyAnswer.{TallyAnswer}
 use Rattle.ledger.specs.Calls
-use Rattle.ledger.specs.Calls.{Call, Outcome, plain, ofDone, ofFlagged, ofFell, ofArbitrated, ofHanded, ofSwitched, ofBussed, movedIn, step}
-use Rattle.ledger.specs.Code.{Returned, by-write, by-read, by-fall, by-next-pair, by-escape-drain, by-bus-call, by-switch-speed, by-lcd-off, by-retired, by-blackout, by-wake, by-arbitrate, by-conflict, by-tally, by-status, by-claim, by-park, by-request, by-holds, by-seizes, by-in-progress, by-divider, by-double-speed, by-steps, by-bank, by-svbk}
+use Rattle.ledger.specs.Calls.{Call, Outcome, handing, plain, ofDone, ofFlagged, ofFell, ofArbitrated, ofHanded, ofSwitched, ofBussed, movedIn, step}
+use Rattle.ledger.specs.Code.{Returned, by-write, by-read, by-fall, by-next-pair, by-escape-drain, by-bus-call, by-switch-speed}
+use Rattle.ledger.specs.Code.{by-lcd-off, by-retired, by-blackout, by-wake, by-arbitrate, by-conflict, by-tally, by-status, by-claim}
+use Rattle.ledger.specs.Code.{by-park, by-request, by-holds, by-seizes, by-in-progress, by-divider, by-double-speed, by-steps, by-bank, by-svbk}
+use Rattle.ledger.proofs.AcceptedOrDeclined.{reasonsOf}
+use Rattle.ledger.proofs.BusKinds.{of-each}
 
 -- no more pairs than asked for
 taken-count : (n : ℕ) (d : VramDma) → length (takenOf n d .pairs) ≤ n
@@ -45,13 +50,9 @@ taken-count (suc n) d = by (nextByteOf d .answer) (taken-count n (nextByteOf d .
     by next.None h = omega arith
 
 bus-count : (i : BusInput) (d : VramDma) → length (busTaken i d .pairs) ≤ d .cursor .quota
-unfolding busTaken pairsOf
-bus-count i d = by (holdsBus i) (setupStands d)
-  where
-    by : (held cell : Bool) → length (cond held (cond {A = Taken} cell (record { dma = withCells (ticked (d .block .«setup_cells») .next) d; pairs = []; setup = true }) (pairsOf d)) (nothing d) .pairs) ≤ d .cursor .quota
-    by true true = omega arith
-    by true false = taken-count (d .cursor .quota) d
-    by false cell = omega arith
+unfolding pairsOf
+bus-count i d =
+    of-each (λ (t : Taken). length (t .pairs) ≤ d .cursor .quota) i d (omega arith) (omega arith) (taken-count (d .cursor .quota) d)
 
 -- two places hold them all
 two-places : {A : Type 0} (none : A) (xs : List A) → length xs ≤ 2 → take (length xs) (firstTwo none xs) ≡ xs
@@ -60,21 +61,20 @@ two-places none (a ∷ []) h = refl
 two-places none (a ∷ b ∷ []) h = refl
 two-places none (a ∷ b ∷ c ∷ more) h = absurd (omega arith)
 
--- an accepted bus call is of a state that passes 7
-passed : (a b : Bool) → eqb (cond a 7 (cond b 2 0)) 0 ≡ true → a ≡ false
-passed true b h = absurd (false≢true h)
-passed false b h = refl
-
 module _ (s : Cgb) (i : BusInput) (n : Lengths) where
-  accepted-pairs : eqb (busRefusal s n) 0 ≡ true → length (takenIn s i .pairs) ≤ 2
+  -- an accepted bus call is of a state that passes 7
+  accepted-pairs : busRefusal s n ≡ 0 → length (takenIn s i .pairs) ≤ 2
   unfolding busRefusal
-  accepted-pairs e =
-      let r = seven.reached s (passed (unreached s) (wrongLengths (n .cartridge) (n .wram) (n .vram) (n .oam)) e) in
-      omega (arith, bus-count i (s .«vram_dma»), r .quota)
+  accepted-pairs none =
+      let passes = none-holds ((unreached s ⇒ 7) ∷ reasonsOf s (Calls.bus-call i n)) refl none .0 in
+      omega (arith, bus-count i (s .«vram_dma»), seven.reached s passes .quota)
 
   bus-reply :
       _≡_ {A = Outcome}
-      (record { reply = record { number = busSays (busAnswer s i n) .number; pairs = movedIn (busAnswer s i n) (firstTwo noPair (busPairs s i n)); cut = false }; state = busState s i n })
+      (record {
+        reply = handing (busSays (busAnswer s i n) .number) (movedIn (busAnswer s i n) (firstTwo noPair (busPairs s i n)));
+        state = busState s i n;
+      })
       (step s (Calls.bus-call i n))
   unfolding step busAnswer busPairs busState
   bus-reply = by (eqb (busRefusal s n) 0) refl
@@ -83,10 +83,10 @@ module _ (s : Cgb) (i : BusInput) (n : Lengths) where
           (b : Bool) → eqb (busRefusal s n) 0 ≡ b →
           (let a = cond b (Moved (length (takenIn s i .pairs)) (takenIn s i .setup)) (Refused (busRefusal s n)) in
           let ps = cond b (takenIn s i .pairs) [] in
-          _≡_ {A = Outcome}
-          (record { reply = record { number = busSays a .number; pairs = movedIn a (firstTwo noPair ps); cut = false }; state = busState s i n })
-          (record { reply = record { number = busRefusal s n; pairs = ps; cut = false }; state = busState s i n }))
-      by true e = rw (eqb-true (busRefusal s n) 0 e, two-places noPair (takenIn s i .pairs) (accepted-pairs e))
+          _≡_ {A = Outcome} (record { reply = handing (busSays a .number) (movedIn a (firstTwo noPair ps)); state = busState s i n })
+          (record { reply = handing (busRefusal s n) ps; state = busState s i n }))
+      by true e =
+          let none = eqb-true (busRefusal s n) 0 e in rw (none, two-places noPair (takenIn s i .pairs) (accepted-pairs none))
       by false e = refl
 
 pub returned-step : {s : Cgb} {c : Call} {o : Outcome} → Returned s c o → o ≡ step s c

@@ -7,15 +7,19 @@ use lib.Dec.{eqb}
 use borrow.Author.Tests.{eqb-true}
 use Rattle.console.specs.declared.Cgb.{Cgb}
 use Rattle.hdma.specs.Hdma5.{hdma5Written, lengthOf}
+use Rattle.hdma.specs.Pointers.{withHigh, withLow}
 use Rattle.hdma.proofs.Written as hdma
-use Rattle.registers.specs.Map.{Register, KEY0, KEY1, VBK, HDMA1, HDMA2, HDMA3, HDMA4, HDMA5, SVBK, FF72, FF73, FF74, FF75, Place, workRam, bankedRam, extraOam, register, unmapped, placeOf, registerOf, within, isMapped, locks, locksAt}
-use Rattle.registers.specs.Write.{stateAt, storedOf, mapWriteOf}
+use Rattle.registers.specs.Map.{Register, KEY0, KEY1, VBK, HDMA1, HDMA2, HDMA3, HDMA4, HDMA5, SVBK, FF72, FF73, FF74, FF75}
+use Rattle.registers.specs.Map.{Place, workRam, bankedRam, extraOam, register, unmapped, placeOf, within, isMapped, locks, locksAt}
+use Rattle.registers.specs.Write.{withSource, withDest, stateAt, storedOf, mapWriteOf}
 use Rattle.registers.specs.declared.MapWritten.{MapWritten}
 use Rattle.registers.specs.declared.WriteInput.{WriteInput}
-use Rattle.ledger.specs.Ledger.{Ledger, Followed, source-high, source-low, dest-high, dest-low, length, elsewhere, followed, highByte, lowByte, noted}
+use Rattle.ledger.specs.LedgerInput.{Configuration}
+use Rattle.ledger.specs.Ledger.{Ledger, highByte, lowByte, withPointers, afterWrite}
+use Rattle.ledger.specs.Ledger.{Followed, source-high, source-low, dest-high, dest-low, transfer-length, elsewhere, followed}
 use Rattle.ledger.specs.Demand3.{Balanced}
 use Rattle.ledger.proofs.Core.{Core, under, coreOf, quota}
-use Rattle.ledger.proofs.Pays.{Match}
+use Rattle.ledger.proofs.PairsMatch.{Match}
 
 -- which of the ledger's registers a place of the engine's map is
 abbrev follows : Place → Followed
@@ -30,7 +34,7 @@ follows (register HDMA1) = source-high
 follows (register HDMA2) = source-low
 follows (register HDMA3) = dest-high
 follows (register HDMA4) = dest-low
-follows (register HDMA5) = length
+follows (register HDMA5) = transfer-length
 follows (register SVBK) = elsewhere
 follows (register FF72) = elsewhere
 follows (register FF73) = elsewhere
@@ -122,10 +126,10 @@ module _ (s : Cgb) (w : WriteInput) where
   quota-kept (register FF75) = refl
 
 -- the two ways of writing a byte of a pointer, and of a length
-same-high : (v p : ℕ) → v * 256 + p % 256 ≡ highByte v p
+same-high : (v p : ℕ) → withHigh v p ≡ highByte v p
 same-high v p = omega arith
 
-same-low : (v p : ℕ) → p / 256 * 256 + v / 16 * 16 ≡ lowByte v p
+same-low : (v p : ℕ) → withLow v p ≡ lowByte v p
 same-low v p = omega arith
 
 same-length : (v : ℕ) → lengthOf v ≡ 16 * (v % 128 + 1)
@@ -137,11 +141,40 @@ high-bound v p h = omega arith
 low-bound : (v p : ℕ) → v < 256 → p < 65536 → lowByte v p < 65536
 low-bound v p h k = omega arith
 
-module _ (compat : Bool) (s : Cgb) (w : WriteInput) (byte : w .value < 256) (l : Ledger) (m : Match compat (coreOf s) l) where
-  kept-match : (t : Cgb) → coreOf t ≡ coreOf s → Match compat (coreOf t) l
-  kept-match t e = subst (λ (k : Core). Match compat k l) (sym e) m
+module _ (k : Configuration) (s : Cgb) (w : WriteInput) (byte : w .value < 256) (l : Ledger) (m : Match k (coreOf s) l) where
+  kept-match : (t : Cgb) → coreOf t ≡ coreOf s → Match k (coreOf t) l
+  kept-match t e = subst (λ (c : Core). Match k c l) (sym e) m
 
-  written-match : (p : Place) → Match compat (coreOf (stateAt s w p)) (noted (follows p) (w .value) l)
+  -- a pointer written on both sides
+  with-source : (x y : ℕ) → x ≡ y → y < 65536 → Match k (coreOf (withSource x s)) (withPointers y (l .dest) l)
+  unfolding Balanced
+  with-source x y same bound =
+      record {
+        locked = m .locked;
+        source = same;
+        dest = m .dest;
+        left = m .left;
+        free = m .free;
+        source-bound = bound;
+        dest-bound = m .dest-bound;
+        balance = m .balance;
+      }
+
+  with-dest : (x y : ℕ) → x ≡ y → y < 65536 → Match k (coreOf (withDest x s)) (withPointers (l .source) y l)
+  unfolding Balanced
+  with-dest x y same bound =
+      record {
+        locked = m .locked;
+        source = m .source;
+        dest = same;
+        left = m .left;
+        free = m .free;
+        source-bound = m .source-bound;
+        dest-bound = bound;
+        balance = m .balance;
+      }
+
+  written-match : (p : Place) → Match k (coreOf (stateAt s w p)) (afterWrite (follows p) (w .value) l)
   unfolding Balanced
   written-match (workRam i) = m
   written-match (bankedRam i) = m
@@ -151,16 +184,27 @@ module _ (compat : Bool) (s : Cgb) (w : WriteInput) (byte : w .value < 256) (l :
   written-match (register KEY1) = kept-match (stateAt s w (register KEY1)) refl
   written-match (register VBK) = kept-match (stateAt s w (register VBK)) refl
   written-match (register HDMA1) =
-      record { locked = m .locked; source = ap (λ (p : ℕ). w .value * 256 + p % 256) (m .source) ∙ same-high (w .value) (l .source); dest = m .dest; left = m .left; free = m .free; bound = m .bound; balance = m .balance }
+      with-source _ _ (ap (withHigh (w .value)) (m .source) ∙ same-high (w .value) (l .source)) (high-bound (w .value) (l .source) byte)
   written-match (register HDMA2) =
-      record { locked = m .locked; source = ap (λ (p : ℕ). p / 256 * 256 + w .value / 16 * 16) (m .source) ∙ same-low (w .value) (l .source); dest = m .dest; left = m .left; free = m .free; bound = m .bound; balance = m .balance }
+      with-source _ _ (ap (withLow (w .value)) (m .source) ∙ same-low (w .value) (l .source))
+      (low-bound (w .value) (l .source) byte (m .source-bound))
   written-match (register HDMA3) =
-      record { locked = m .locked; source = m .source; dest = ap (λ (p : ℕ). w .value * 256 + p % 256) (m .dest) ∙ same-high (w .value) (l .dest); left = m .left; free = m .free; bound = high-bound (w .value) (l .dest) byte; balance = m .balance }
+      with-dest _ _ (ap (withHigh (w .value)) (m .dest) ∙ same-high (w .value) (l .dest)) (high-bound (w .value) (l .dest) byte)
   written-match (register HDMA4) =
-      record { locked = m .locked; source = m .source; dest = ap (λ (p : ℕ). p / 256 * 256 + w .value / 16 * 16) (m .dest) ∙ same-low (w .value) (l .dest); left = m .left; free = m .free; bound = low-bound (w .value) (l .dest) byte (m .bound); balance = m .balance }
+      with-dest _ _ (ap (withLow (w .value)) (m .dest) ∙ same-low (w .value) (l .dest))
+      (low-bound (w .value) (l .dest) byte (m .dest-bound))
   written-match (register HDMA5) =
-      let k = hdma.keeps (w .value) (w .«lcd_on») (s .«vram_dma») in
-      record { locked = m .locked; source = k .source ∙ m .source; dest = k .dest ∙ m .dest; left = k .left ∙ same-length (w .value); free = k .escape ∙ m .free; bound = m .bound; balance = omega (arith, m .balance) }
+      let h = hdma.keeps (w .value) (w .«lcd_on») (s .«vram_dma») in
+      record {
+        locked = m .locked;
+        source = h .source ∙ m .source;
+        dest = h .dest ∙ m .dest;
+        left = h .left ∙ same-length (w .value);
+        free = h .escape ∙ m .free;
+        source-bound = m .source-bound;
+        dest-bound = m .dest-bound;
+        balance = omega (arith, m .balance);
+      }
   written-match (register SVBK) = kept-match (stateAt s w (register SVBK)) refl
   written-match (register FF72) = kept-match (stateAt s w (register FF72)) refl
   written-match (register FF73) = kept-match (stateAt s w (register FF73)) refl
@@ -188,18 +232,20 @@ module _ (compat : Bool) (s : Cgb) (w : WriteInput) (byte : w .value < 256) (l :
   unlocked-elsewhere (register FF75) h = refl
 
   -- "Accepted, unlocked FF51–FF55 writes act as in section 1"; locked ones, and all others, on neither
-  pub write-match : (a : ℕ) → Match compat (coreOf (mapWriteOf s w a .state)) (cond compat l (noted (followed a) (w .value) l))
+  pub write-match : (a : ℕ) → Match k (coreOf (mapWriteOf s w a .state)) (cond (k .compat) l (afterWrite (followed a) (w .value) l))
   unfolding mapWriteOf storedOf locksAt
-  write-match a = by (s .«dmg_compat») compat (locks (placeOf a)) refl (m .locked) refl
+  write-match a = by (s .«dmg_compat») (k .compat) (locks (placeOf a)) refl (m .locked) refl
     where
       by :
-          (d c k : Bool) → s .«dmg_compat» ≡ d → d ≡ c → locks (placeOf a) ≡ k →
-          Match compat (coreOf (cond {A = MapWritten} (d && k) (record { mapped = isMapped (placeOf a); state = s }) (storedOf s w a) .state)) (cond c l (noted (followed a) (w .value) l))
+          (d c lock : Bool) → s .«dmg_compat» ≡ d → d ≡ c → locks (placeOf a) ≡ lock →
+          (let t : MapWritten = cond {A = MapWritten} (d && lock) (record { mapped = isMapped (placeOf a); state = s }) (storedOf s w a) in
+          Match k (coreOf (t .state)) (cond c l (afterWrite (followed a) (w .value) l)))
       by true true true e f g = m
-      by true true false e f g = kept-match (stateAt s w (placeOf a)) (core-kept s w (placeOf a) (unlocked-elsewhere (placeOf a) g))
-      by true false k e f g = absurd (false≢true (sym f))
-      by false true k e f g = absurd (false≢true f)
-      by false false k e f g = rw (← same-map a) (written-match (placeOf a))
+      by true true false e f g =
+          kept-match (stateAt s w (placeOf a)) (core-kept s w (placeOf a) (unlocked-elsewhere (placeOf a) g))
+      by true false lock e f g = absurd (false≢true (sym f))
+      by false true lock e f g = absurd (false≢true f)
+      by false false lock e f g = rw (← same-map a) (written-match (placeOf a))
 
   pub write-quota : (a : ℕ) → quota (mapWriteOf s w a .state) ≡ quota s
   unfolding mapWriteOf storedOf

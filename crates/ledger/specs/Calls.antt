@@ -14,18 +14,22 @@ use Rattle.registers.specs.declared.WriteInput.{WriteInput}
 use Rattle.speed_switch.specs.declared.switch.SwitchInput.{SwitchInput}
 use Rattle.transfer.specs.declared.pair.BytePair.{BytePair}
 use Rattle.bus_calls.specs.Access.{accessRefusal, writeOf}
-use Rattle.answers.specs.Answers.{Said, doneStateSays, flaggedSays, handedSays, fellSays, switchedSays, arbitratedSays, bussedSays, byteSays, flagSays, tallySays, statusSays, claimSays, conflictSays}
+use Rattle.answers.specs.Answers.{Said, doneStateSays, flaggedSays, handedSays, fellSays, switchedSays, arbitratedSays, bussedSays}
+use Rattle.answers.specs.Answers.{byteSays, flagSays, tallySays, statusSays, claimSays, conflictSays}
 use Rattle.bus_calls.specs.Bus.{arbitrationCallOf, conflictCallOf}
 use Rattle.bus_calls.specs.BusCall.{Lengths, busRefusal, busPairs, busState}
 use Rattle.engine.specs.Fall.{fallCallOf}
 use Rattle.engine.specs.Lcd.{lcdCallOf, retiredCallOf}
 use Rattle.engine.specs.Pair.{nextPairOf, escapeDrainOf}
-use Rattle.queries.specs.Query.{flagOf, byteOf, tallyOf, statusOf, claimOf, parkWaits, requestStands, holdsCpu, seizesBus, switchInProgress, dividerRuns, atDoubleSpeed, cpuSteps, bankSelected, svbkWritten}
+use Rattle.queries.specs.Query.{flagOf, byteOf, tallyOf, statusOf, claimOf, parkWaits, requestStands, holdsCpu, seizesBus}
+use Rattle.queries.specs.Query.{switchInProgress, dividerRuns, atDoubleSpeed, cpuSteps, bankSelected, svbkWritten}
 use Rattle.engine.specs.Speed.{switchCallOf, blackoutCallOf, wakeCallOf}
 use Rattle.answers.specs.declared.Arbitrated.{Arbitrated}
 use Rattle.answers.specs.declared.BusAnswer.{BusAnswer}
 use Rattle.answers.specs.declared.BusAnswer.the-variants as bus
 use Rattle.answers.specs.declared.Bussed.{Bussed}
+use Rattle.answers.specs.declared.ClaimAnswer.{ClaimAnswer}
+use Rattle.answers.specs.declared.ClaimAnswer.the-variants as claimed
 use Rattle.answers.specs.declared.Done.{Done}
 use Rattle.answers.specs.declared.Fell.{Fell}
 use Rattle.answers.specs.declared.Flagged.{Flagged}
@@ -35,7 +39,7 @@ use Rattle.answers.specs.declared.PairAnswer.the-variants as pair
 use Rattle.answers.specs.declared.SwitchAnswer.{SwitchAnswer}
 use Rattle.answers.specs.declared.SwitchAnswer.the-variants as switch
 use Rattle.answers.specs.declared.Switched.{Switched}
-use Rattle.ledger.specs.Seen.{Seen, a-write, a-fall, a-switch, a-drain, another, Reply}
+use Rattle.ledger.specs.LedgerInput.{LedgerInput, a-write, a-fall, a-switch, a-drain, another, Reply}
 
 -- what is asked of the state and changes nothing
 pub data Query : Type 0 where
@@ -61,9 +65,13 @@ pub record Outcome : Type 0 where
   pub reply : Reply
   pub state : Cgb
 
+-- a number, and pairs where it is 0
+abbrev pub handing : ℕ → List BytePair → Reply
+handing number pairs = record { number = number; pairs = pairs; cut = false; committed = false }
+
 -- how each function's result reads as an outcome: its number, no pairs
 abbrev pub plain : Said → Cgb → Outcome
-plain said s = record { reply = record { number = said .number; pairs = []; cut = false }; state = s }
+plain said s = record { reply = handing (said .number) []; state = s }
 
 abbrev pub ofDone : Done → Outcome
 ofDone r = plain (doneStateSays r) (r .state)
@@ -71,11 +79,16 @@ ofDone r = plain (doneStateSays r) (r .state)
 abbrev pub ofFlagged : Flagged → Outcome
 ofFlagged r = plain (flaggedSays r) (r .state)
 
-abbrev pub ofFell : Fell → Outcome
-ofFell r = plain (fellSays r) (r .state)
-
 abbrev pub ofArbitrated : Arbitrated → Outcome
 ofArbitrated r = plain (arbitratedSays r) (r .state)
+
+-- or whether it committed
+abbrev pub isCommit : ClaimAnswer → Bool
+isCommit (claimed.Claim committed standing) = committed
+isCommit (claimed.Refused n) = false
+
+abbrev pub ofFell : Fell → Outcome
+ofFell r = record { reply = record { number = fellSays r .number; pairs = []; cut = false; committed = isCommit (r .answer) }; state = r .state }
 
 -- or its pair
 abbrev pub pairsIn : PairAnswer → List BytePair
@@ -84,7 +97,7 @@ pairsIn pair.None = []
 pairsIn (pair.Refused n) = []
 
 abbrev pub ofHanded : Handed → Outcome
-ofHanded r = record { reply = record { number = handedSays r .number; pairs = pairsIn (r .answer); cut = false }; state = r .state }
+ofHanded r = record { reply = handing (handedSays r .number) (pairsIn (r .answer)); state = r .state }
 
 -- or whether it cut
 abbrev pub isCut : SwitchAnswer → Bool
@@ -94,7 +107,7 @@ isCut switch.Cut = true
 isCut (switch.Refused n) = false
 
 abbrev pub ofSwitched : Switched → Outcome
-ofSwitched r = record { reply = record { number = switchedSays r .number; pairs = []; cut = isCut (r .answer) }; state = r .state }
+ofSwitched r = record { reply = record { number = switchedSays r .number; pairs = []; cut = isCut (r .answer); committed = false }; state = r .state }
 
 -- or the pairs of a bus call: the first of its array, as many as it counts
 abbrev pub movedIn : BusAnswer → List BytePair → List BytePair
@@ -102,7 +115,7 @@ movedIn (bus.Moved count setup) ps = take count ps
 movedIn (bus.Refused n) ps = []
 
 abbrev pub ofBussed : Bussed → Outcome
-ofBussed r = record { reply = record { number = bussedSays r .number; pairs = movedIn (r .answer) (r .pairs); cut = false }; state = r .state }
+ofBussed r = record { reply = handing (bussedSays r .number) (movedIn (r .answer) (r .pairs)); state = r .state }
 
 -- what a query says
 abbrev pub asked : Cgb → Query → Said
@@ -123,11 +136,11 @@ asked s svbk = byteSays (byteOf s (svbkWritten s))
 -- one call, at the state s
 unfoldable pub step : Cgb → Call → Outcome
 step s (write a w n byte) = ofDone (writeOf s w a n)
-step s (read a n) = record { reply = record { number = accessRefusal s n a; pairs = []; cut = false }; state = s }
+step s (read a n) = record { reply = handing (accessRefusal s n a) []; state = s }
 step s (fall i) = ofFell (fallCallOf s i)
 step s next-pair = ofHanded (nextPairOf s)
 step s escape-drain = ofHanded (escapeDrainOf s)
-step s (bus-call i n) = record { reply = record { number = busRefusal s n; pairs = busPairs s i n; cut = false }; state = busState s i n }
+step s (bus-call i n) = record { reply = handing (busRefusal s n) (busPairs s i n); state = busState s i n }
 step s (switch-speed i) = ofSwitched (switchCallOf s i)
 step s lcd-off = ofDone (lcdCallOf s)
 step s retired = ofDone (retiredCallOf s)
@@ -138,18 +151,18 @@ step s (conflict a) = plain (conflictSays (conflictCallOf s a)) s
 step s (query q) = plain (asked s q) s
 
 -- what the ledger and demand 3 read of it
-unfoldable pub seen : Call → Seen
-seen (write a w n byte) = a-write a (w .value)
-seen (read a n) = another
-seen (fall i) = a-fall
-seen next-pair = another
-seen escape-drain = a-drain
-seen (bus-call i n) = another
-seen (switch-speed i) = a-switch
-seen lcd-off = another
-seen retired = another
-seen (blackout elapsed) = another
-seen (wake boundary) = another
-seen (arbitrate i) = another
-seen (conflict a) = another
-seen (query q) = another
+unfoldable pub ledgerInput : Call → LedgerInput
+ledgerInput (write a w n byte) = a-write a (w .value)
+ledgerInput (read a n) = another
+ledgerInput (fall i) = a-fall
+ledgerInput next-pair = another
+ledgerInput escape-drain = a-drain
+ledgerInput (bus-call i n) = another
+ledgerInput (switch-speed i) = a-switch
+ledgerInput lcd-off = another
+ledgerInput retired = another
+ledgerInput (blackout elapsed) = another
+ledgerInput (wake boundary) = another
+ledgerInput (arbitrate i) = another
+ledgerInput (conflict a) = another
+ledgerInput (query q) = another

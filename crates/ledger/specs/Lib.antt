@@ -1,4 +1,4 @@
-pub mod Seen
+pub mod LedgerInput
 pub mod Ledger
 pub mod Calls
 pub mod Code
