@@ -1,7 +1,6 @@
 -- "The first reason that holds" taken apart, for every list of reasons: no number exactly where none holds, the first that holds
 -- gives its number, and no number comes that the list has not. Assumes nothing.
 use Prim.Native.Nat.{ℕ}
-use native.Mathlib.Omega.{arith}
 use mathlib.Core.Path.{_≡_, refl, sym, ap, _∙_}
 use mathlib.Core.Bool.{Bool, true, false, cond, not, _&&_, false≢true}
 use mathlib.Core.List.{List, [], _∷_, _++_}

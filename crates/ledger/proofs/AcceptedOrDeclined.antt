@@ -15,12 +15,9 @@ use Rattle.console.proofs.Refusals.{NoneHolds, without, none-holds, never-first
 use Rattle.memory.specs.Lengths.{wramLength, wrongLength}
 use Rattle.bus.specs.declared.arbitration.Arbitration.{Arbitration}
 use Rattle.bus.specs.declared.arbitration.Arbitration.the-variants as bus
-use Rattle.bus.specs.declared.arbitration.ArbitrationInput.{ArbitrationInput}
-use Rattle.bus.specs.declared.commit.BusInput.{BusInput}
 use Rattle.fall_edge.specs.declared.FallInput.{FallInput}
 use Rattle.registers.specs.Map.{placeOf, isMapped}
 use Rattle.registers.specs.Write.{mapWriteOf}
-use Rattle.registers.specs.declared.WriteInput.{WriteInput}
 use Rattle.speed_switch.specs.Blackout.{drainedOf, wokenOf}
 use Rattle.speed_switch.specs.Speed.{blackoutActive}
 use Rattle.speed_switch.specs.Switch.{switchedOf}
@@ -30,7 +27,6 @@ use Rattle.speed_switch.specs.declared.switch.SwitchOutcome.the-variants as out
 use Rattle.transfer.specs.Conflict.{conflictOf}
 use Rattle.transfer.specs.Latch.{lcdDisabledOf, retiredOf}
 use Rattle.transfer.specs.Pair.{nextByteOf, drainOf}
-use Rattle.transfer.specs.Questions as transfer
 use Rattle.transfer.specs.declared.Conflict.{Conflict}
 use Rattle.transfer.specs.declared.Conflict.the-variants as found
 use Rattle.transfer.specs.declared.pair.BytePair.{BytePair}
@@ -38,9 +34,10 @@ use Rattle.transfer.specs.declared.pair.NextAnswer.{NextAnswer}
 use Rattle.transfer.specs.declared.pair.NextAnswer.the-variants as next
 use Rattle.bus_calls.specs.Access.{accessRefusal, writeOf}
 use Rattle.answers.specs.Answers.{Said, kept, stateRefusal}
-use Rattle.answers.specs.Answers.{doneSays, flagSays, claimSays, pairSays, switchSays, arbitrationSays, conflictSays, tallySays, statusSays, byteSays}
+use Rattle.answers.specs.Answers.{doneSays, flagSays, claimSays, pairSays, switchSays, arbitrationSays, conflictSays, tallySays}
+use Rattle.answers.specs.Answers.{statusSays, byteSays}
 use Rattle.bus_calls.specs.Bus.{arbitrated, arbitrationAnswerOf, arbitrationCallOf, conflictAnswerOf, conflictCallOf}
-use Rattle.bus_calls.specs.BusCall.{Lengths, wrongLengths, busRefusal, takenIn, busPairs, busState}
+use Rattle.bus_calls.specs.BusCall.{wrongLengths, busRefusal, takenIn, busPairs, busState}
 use Rattle.engine.specs.Fall.{fallen, fallRefusal, fallenState, fallCallOf}
 use Rattle.engine.specs.Lcd.{lcdCallOf, retiredCallOf}
 use Rattle.engine.specs.Pair.{pairAnswerOf, nextPairOf, escapeDrainOf}
@@ -63,7 +60,7 @@ use Rattle.answers.specs.declared.StatusAnswer.the-variants as status
 use Rattle.answers.specs.declared.SwitchAnswer.{SwitchAnswer}
 use Rattle.answers.specs.declared.SwitchAnswer.the-variants as switch
 use Rattle.answers.specs.declared.TallyAnswer.the-variants as tally
-use Rattle.ledger.specs.LedgerInput.{Reply, accepts}
+use Rattle.ledger.specs.LedgerInput.{accepts}
 use Rattle.ledger.specs.Calls
 use Rattle.ledger.specs.Calls.{Call, Query, Outcome, handing, plain, pairsIn, isCommit, isCut, asked, step}
 
@@ -254,6 +251,19 @@ givenBy s (Calls.arbitrate i) = quiet (withVramDma (withDmaOam (arbitrated s i .
 givenBy s (Calls.conflict a) = quiet s
 givenBy s (Calls.query q) = quiet s
 
+-- what the calls compute with: to open one of these is to open all that it names
+opens-calls : Unit {0}
+unfolding writeOf fallCallOf nextPairOf escapeDrainOf switchCallOf lcdCallOf retiredCallOf blackoutCallOf wakeCallOf
+opens-calls = tt
+
+opens-bus : Unit {0}
+unfolding busPairs busState arbitrationCallOf conflictCallOf
+opens-bus = tt
+
+opens-numbers : Unit {0}
+unfolding accessRefusal fallRefusal busRefusal switchRefusal stateRefusal
+opens-numbers = tt
+
 module _ (s : Cgb) where
   query-says : (q : Query) → asked s q .number ≡ stateRefusal s
   unfolding tallyOf statusOf claimOf flagOf byteOf
@@ -273,7 +283,7 @@ module _ (s : Cgb) where
 
   -- every call of H
   pub step-is : (c : Call) → step s c ≡ decided (numberOf s c) s (givenBy s c)
-  unfolding step writeOf accessRefusal fallCallOf fallRefusal nextPairOf escapeDrainOf busRefusal busPairs busState switchCallOf switchRefusal lcdCallOf retiredCallOf blackoutCallOf wakeCallOf arbitrationCallOf conflictCallOf stateRefusal
+  unfolding step opens-calls opens-bus opens-numbers
   step-is (Calls.write a w n byte) =
       by-answer (λ (x : DoneAnswer) t. plain (doneSays x) t) done.Refused (accessRefusal s n a) done.Done s _ _ refl refl
   step-is (Calls.read a n) = by-number (accessRefusal s n a) s

@@ -11,24 +11,22 @@ use Rattle.console.specs.declared.Cgb.{Cgb}
 use Rattle.bus.specs.declared.arbitration.ArbitrationInput.{ArbitrationInput}
 use Rattle.bus.specs.declared.commit.BusInput.{BusInput}
 use Rattle.fall_edge.specs.declared.FallInput.{FallInput}
-use Rattle.registers.specs.Map.{placeOf}
-use Rattle.registers.specs.Read.{byteAt}
 use Rattle.registers.specs.declared.WriteInput.{WriteInput}
-use Rattle.speed_switch.specs.Blackout.{drainedOf, wokenOf}
 use Rattle.speed_switch.specs.Switch.{switchedOf}
 use Rattle.speed_switch.specs.declared.switch.SwitchInput.{SwitchInput}
 use Rattle.transfer.specs.Conflict.{conflictOf}
 use Rattle.transfer.specs.Pair.{nextByteOf, drainOf}
-use Rattle.transfer.specs.Questions as transfer
 use Rattle.bus_calls.specs.Access.{accessRefusal, readOf, readSaid, writeOf, writeSaid}
-use Rattle.answers.specs.Answers.{Said, declined, accepted, saying, bitOf, doneSays, byteSays, flagSays, claimSays, tallySays, statusSays, pairSays, switchSays, arbitrationSays, conflictSays, busSays, bussedSays, doneStateSays, flaggedSays, handedSays, fellSays, switchedSays, arbitratedSays, stateRefusal}
-use Rattle.bus_calls.specs.Bus.{arbitrated, arbitrationAnswerOf, arbitrationValues, conflictAnswerOf, conflictValues, arbitrationCallOf, arbitrationSaid, conflictCallOf, conflictSaid}
-use Rattle.bus_calls.specs.BusCall.{lengthsOf, takenIn, busRefusal, busAnswer, busSaid, busOf}
-use Rattle.engine.specs.Fall.{fallen, fallRefusal, fallCallOf, fallSaid}
+use Rattle.answers.specs.Answers.{Said, declined, accepted, saying, bitOf, doneSays, byteSays, flagSays, claimSays, tallySays, statusSays}
+use Rattle.answers.specs.Answers.{pairSays, switchSays, arbitrationSays, conflictSays, busSays, bussedSays, doneStateSays, flaggedSays}
+use Rattle.answers.specs.Answers.{handedSays, fellSays, switchedSays, arbitratedSays, stateRefusal}
+use Rattle.bus_calls.specs.Bus.{arbitrated, conflictAnswerOf, conflictValues, arbitrationCallOf, arbitrationSaid, conflictCallOf, conflictSaid}
+use Rattle.bus_calls.specs.BusCall.{lengthsOf, busRefusal, busAnswer, busSaid, busOf}
+use Rattle.engine.specs.Fall.{fallRefusal, fallCallOf, fallSaid}
 use Rattle.engine.specs.Lcd.{doneSaid, lcdCallOf, retiredCallOf}
-use Rattle.engine.specs.Pair.{pairAnswerOf, pairValues, nextPairOf, nextPairSaid, escapeDrainOf, escapeDrainSaid}
+use Rattle.engine.specs.Pair.{nextPairOf, nextPairSaid, escapeDrainOf, escapeDrainSaid}
 use Rattle.queries.specs.Query.{querySaid, flagOf, byteOf, tallyOf, tallyValues, statusOf, statusValues, claimOf, claimValues}
-use Rattle.engine.specs.Speed.{switchRefusal, switchAnswerOf, switchValues, switchCallOf, switchSaid, blackoutCallOf, blackoutSaid, wakeCallOf, wakeSaid}
+use Rattle.engine.specs.Speed.{switchRefusal, switchCallOf, switchSaid, blackoutCallOf, blackoutSaid, wakeCallOf, wakeSaid}
 use Rattle.answers.specs.declared.ArbitrationAnswer.the-variants as arbitration
 use Rattle.answers.specs.declared.BusAnswer.the-variants as moved
 use Rattle.answers.specs.declared.ByteAnswer.the-variants as byte
@@ -56,72 +54,77 @@ told says refuse outcome values r a k = by (eqb k 0) refl
 module _ (s : Cgb) where
   pub write-told : (w : WriteInput) (a n : ℕ) → doneStateSays (writeOf s w a n) ≡ writeSaid s a n
   unfolding writeOf writeSaid
-  write-told w a n = told doneSays done.Refused done.Done [] (λ k. refl) refl (accessRefusal s n a)
+  write-told w a n = told doneSays done.Refused _ _ (λ k. refl) refl (accessRefusal s n a)
 
   pub read-told : (wram : List ℕ) (a : ℕ) → byteSays (readOf s wram a) ≡ readSaid s wram a
   unfolding readOf readSaid
-  read-told wram a = told byteSays byte.Refused (byte.Byte (byteAt s wram (placeOf a))) (byteAt s wram (placeOf a) ∷ []) (λ k. refl) refl (accessRefusal s (length wram) a)
+  read-told wram a = told byteSays byte.Refused _ _ (λ k. refl) refl (accessRefusal s (length wram) a)
 
   pub fall-told : (i : FallInput) → fellSays (fallCallOf s i) ≡ fallSaid s i
   unfolding fallCallOf fallSaid
-  fall-told i = let c = fallen s i .claim in told claimSays claim.Refused (claim.Claim (c .committed) (c .standing)) (bitOf (c .committed) ∷ bitOf (c .standing) ∷ []) (λ k. refl) refl (fallRefusal s i)
+  fall-told i = told claimSays claim.Refused _ _ (λ k. refl) refl (fallRefusal s i)
 
   pub next-told : handedSays (nextPairOf s) ≡ nextPairSaid s
   unfolding nextPairOf nextPairSaid
-  next-told = let a = nextByteOf (s .«vram_dma») .answer in told pairSays pair.Refused (pairAnswerOf a) (pairValues a) (λ k. refl) (pair-said (nextByteOf (s .«vram_dma») .answer)) (stateRefusal s)
+  next-told = told pairSays pair.Refused _ _ (λ k. refl) (pair-said (nextByteOf (s .«vram_dma») .answer)) (stateRefusal s)
 
   pub drain-told : handedSays (escapeDrainOf s) ≡ escapeDrainSaid s
   unfolding escapeDrainOf escapeDrainSaid
-  drain-told = let a = drainOf (s .«vram_dma») .answer in told pairSays pair.Refused (pairAnswerOf a) (pairValues a) (λ k. refl) (pair-said (drainOf (s .«vram_dma») .answer)) (stateRefusal s)
+  drain-told = told pairSays pair.Refused _ _ (λ k. refl) (pair-said (drainOf (s .«vram_dma») .answer)) (stateRefusal s)
 
-  pub bus-told : (i : BusInput) (cartridge wram vram oam : List ℕ) → bussedSays (busOf s i cartridge wram vram oam) ≡ busSaid s i (lengthsOf cartridge wram vram oam)
+  pub bus-told :
+      (i : BusInput) (cartridge wram vram oam : List ℕ) →
+      bussedSays (busOf s i cartridge wram vram oam) ≡ busSaid s i (lengthsOf cartridge wram vram oam)
   unfolding busOf busAnswer busSaid
-  bus-told i cartridge wram vram oam = let t = takenIn s i in told busSays moved.Refused (moved.Moved (length (t .pairs)) (t .setup)) (length (t .pairs) ∷ bitOf (t .setup) ∷ []) (λ k. refl) refl (busRefusal s (lengthsOf cartridge wram vram oam))
+  bus-told i cartridge wram vram oam = told busSays moved.Refused _ _ (λ k. refl) refl (busRefusal s (lengthsOf cartridge wram vram oam))
 
   pub switch-told : (i : SwitchInput) → switchedSays (switchCallOf s i) ≡ switchSaid s i
   unfolding switchCallOf switchSaid
-  switch-told i = let o = switchedOf i s .outcome in told switchSays switch.Refused (switchAnswerOf o) (switchValues o) (λ k. refl) (switch-said (switchedOf i s .outcome)) (switchRefusal s i)
+  switch-told i = told switchSays switch.Refused _ _ (λ k. refl) (switch-said (switchedOf i s .outcome)) (switchRefusal s i)
 
   pub lcd-told : doneStateSays (lcdCallOf s) ≡ doneSaid s
   unfolding lcdCallOf doneSaid
-  lcd-told = told doneSays done.Refused done.Done [] (λ k. refl) refl (stateRefusal s)
+  lcd-told = told doneSays done.Refused _ _ (λ k. refl) refl (stateRefusal s)
 
   pub retired-told : doneStateSays (retiredCallOf s) ≡ doneSaid s
   unfolding retiredCallOf doneSaid
-  retired-told = told doneSays done.Refused done.Done [] (λ k. refl) refl (stateRefusal s)
+  retired-told = told doneSays done.Refused _ _ (λ k. refl) refl (stateRefusal s)
 
   pub blackout-told : (elapsed : ℕ) → flaggedSays (blackoutCallOf s elapsed) ≡ blackoutSaid s elapsed
   unfolding blackoutCallOf blackoutSaid
-  blackout-told elapsed = let f = drainedOf elapsed s .flag in told flagSays flag.Refused (flag.Flag f) (bitOf f ∷ []) (λ k. refl) refl (stateRefusal s)
+  blackout-told elapsed = told flagSays flag.Refused _ _ (λ k. refl) refl (stateRefusal s)
 
   pub wake-told : (boundary : Bool) → flaggedSays (wakeCallOf s boundary) ≡ wakeSaid s boundary
   unfolding wakeCallOf wakeSaid
-  wake-told boundary = let f = wokenOf boundary s .flag in told flagSays flag.Refused (flag.Flag f) (bitOf f ∷ []) (λ k. refl) refl (stateRefusal s)
+  wake-told boundary = told flagSays flag.Refused _ _ (λ k. refl) refl (stateRefusal s)
 
   pub arbitrate-told : (i : ArbitrationInput) → arbitratedSays (arbitrationCallOf s i) ≡ arbitrationSaid s i
   unfolding arbitrationCallOf arbitrationSaid
-  arbitrate-told i = let a = arbitrated s i .answer in told arbitrationSays arbitration.Refused (arbitrationAnswerOf a) (arbitrationValues a) (λ k. refl) (arbitration-said (arbitrated s i .answer)) (stateRefusal s)
+  arbitrate-told i =
+      told arbitrationSays arbitration.Refused _ _ (λ k. refl) (arbitration-said (arbitrated s i .answer)) (stateRefusal s)
 
   pub conflict-told : (a : ℕ) → conflictSays (conflictCallOf s a) ≡ conflictSaid s a
   unfolding conflictCallOf conflictSaid
-  conflict-told a = let c = conflictOf (s .«double_speed») a (s .«vram_dma») in told conflictSays conflict.Refused (conflictAnswerOf c) (conflictValues c) (λ k. refl) (conflict-said (conflictOf (s .«double_speed») a (s .«vram_dma»))) (stateRefusal s)
+  conflict-told a =
+      let c = conflictOf (s .«double_speed») a (s .«vram_dma») in
+      told conflictSays conflict.Refused (conflictAnswerOf c) (conflictValues c) (λ k. refl) (conflict-said c) (stateRefusal s)
 
   pub tally-told : tallySays (tallyOf s) ≡ querySaid s (tallyValues s)
   unfolding tallyOf querySaid
-  tally-told = let c = s .«vram_dma» .cursor in told tallySays tally.Refused (tally.Tally (c .source) (c .dest) (c .remaining) (c .«escape_byte»)) (tallyValues s) (λ k. refl) refl (stateRefusal s)
+  tally-told = told tallySays tally.Refused _ _ (λ k. refl) refl (stateRefusal s)
 
   pub status-told : statusSays (statusOf s) ≡ querySaid s (statusValues s)
   unfolding statusOf querySaid
-  status-told = told statusSays status.Refused (status.Status (transfer.statusOf (s .«vram_dma»))) (statusValues s) (λ k. refl) refl (stateRefusal s)
+  status-told = told statusSays status.Refused _ _ (λ k. refl) refl (stateRefusal s)
 
   pub claim-told : claimSays (claimOf s) ≡ querySaid s (claimValues s)
   unfolding claimOf querySaid
-  claim-told = let c = s .«console_state» .«vram_dma_claim» in told claimSays claim.Refused (claim.Claim (c .committed) (c .standing)) (claimValues s) (λ k. refl) refl (stateRefusal s)
+  claim-told = told claimSays claim.Refused _ _ (λ k. refl) refl (stateRefusal s)
 
   pub flag-told : (value : Bool) → flagSays (flagOf s value) ≡ querySaid s (bitOf value ∷ [])
   unfolding flagOf querySaid
-  flag-told value = told flagSays flag.Refused (flag.Flag value) (bitOf value ∷ []) (λ k. refl) refl (stateRefusal s)
+  flag-told value = told flagSays flag.Refused _ _ (λ k. refl) refl (stateRefusal s)
 
   pub byte-told : (value : ℕ) → byteSays (byteOf s value) ≡ querySaid s (value ∷ [])
   unfolding byteOf querySaid
-  byte-told value = told byteSays byte.Refused (byte.Byte value) (value ∷ []) (λ k. refl) refl (stateRefusal s)
+  byte-told value = told byteSays byte.Refused _ _ (λ k. refl) refl (stateRefusal s)

@@ -1,5 +1,5 @@
 -- Small facts on tests. Assumes nothing.
-use mathlib.Core.Path.{_≡_, refl, sym, subst}
+use mathlib.Core.Path.{_≡_, refl}
 use mathlib.Core.Bool.{Bool, true, false, cond, _&&_, false≢true}
 
 pub and-left : (a b : Bool) → (a && b) ≡ true → a ≡ true

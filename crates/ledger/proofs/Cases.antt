@@ -22,9 +22,11 @@ use Rattle.bus.specs.Store.{oamWith}
 use Rattle.transfer.specs.Conflict.{willMove}
 use Rattle.transfer.specs.Pair.{movingOf, cursorAfter, blockAfter, arbAfter, advancedOf, nextByteOf}
 use Rattle.transfer.specs.Questions.{seizesBus}
-use Rattle.transfer.specs.declared.pair.BytePair.{BytePair}
 use Rattle.fall_edge.specs.View.{viewOf}
-use Rattle.fall_edge.specs.Stages.{settledOf, observedArb, observedOf, judgedBlock, ungrantedArb, probationOf, droppedBlock, haltLatchArb, haltLatchOf, agedArb, pendedArb, grants, grantedArb, gatedOf, refilledOf, blindsArb, blindsOf, commitBlock, commitArb, commitOf, tenureArb, tenureOf, pendArb, pendOf, readyBlock, readinessOf, seizedBlock, seizureOf}
+use Rattle.fall_edge.specs.Stages.{settledOf, observedArb, observedOf, judgedBlock, ungrantedArb, probationOf, droppedBlock, haltLatchArb}
+use Rattle.fall_edge.specs.Stages.{haltLatchOf, agedArb, pendedArb, grants, grantedArb, gatedOf, refilledOf, blindsArb, blindsOf}
+use Rattle.fall_edge.specs.Stages.{commitBlock, commitArb, commitOf, tenureArb, tenureOf, pendArb, pendOf, readyBlock, readinessOf}
+use Rattle.fall_edge.specs.Stages.{seizedBlock, seizureOf}
 use Rattle.fall_edge.specs.Fall as stages
 use Rattle.fall_edge.specs.Fall.{fallOf, ranOf, decidedOf, servedOf}
 use Rattle.speed_switch.specs.Switch as switch
@@ -40,8 +42,8 @@ use Rattle.engine.specs.Speed.{defers, switchRefusal, switchCallOf, blackoutCal
 use Rattle.ledger.specs.Ledger.{empty, followed, afterPair, afterPairs, afterCall}
 use Rattle.ledger.specs.Calls.{step, ledgerInput}
 use Rattle.ledger.proofs.Bools.{and-left, and-right}
-use Rattle.ledger.specs.Cases.{Progress, compatMode, start, afterOne, afterCalls, vramRun, run, ff55-is, to, falls, heldBeside, lengths, addresses}
-use Rattle.ledger.specs.Cases.{k1, K1, two-falls, K2, K3, k4, K4, k5, K5, k6, K6, K7, k8, Lent, first-lands, second-lands, K8, K10, Cases}
+use Rattle.ledger.specs.Cases.{Progress, compatMode, start, afterOne, afterCalls, vramRun, run, ff55-is, to, falls, heldBeside, lengths}
+use Rattle.ledger.specs.Cases.{k1, K1, two-falls, K2, K3, K4, K5, k6, K6, K7, k8, Lent, first-lands, second-lands, K8, K10, Cases}
 
 -- lists of addresses are compared number by number
 abbrev same : List (ℕ × ℕ) → List (ℕ × ℕ) → Bool
@@ -77,40 +79,120 @@ at-exit :
 at-exit s edge m last h =
     ap (λ (n : Lengths). busOam s (heldBeside edge) n (m .cartridge) (m .wram) (m .oam)) (m .sized) ∙ h
 
+-- What the cases compute with, by what their calls do: to open one of these is to open all that it names
+opens-runs : Unit {0}
+unfolding start afterOne afterCalls step ledgerInput powerOnOf dmaAtRest unreached stateRefusal afterCall afterPairs afterPair followed empty
+opens-runs = tt
+
+opens-writes : Unit {0}
+unfolding writeOf accessRefusal placeOf mapWriteOf storedOf locksAt hdma5Written armedOf cancelledOf startedOf statusByte
+opens-writes = tt
+
+opens-fall-decides : Unit {0}
+unfolding fallCallOf fallRefusal fallenState fallOf viewOf ranOf decidedOf stages.startedOf servedOf settledOf movingOf seizesBus
+opens-fall-decides = tt
+
+opens-fall-grants : Unit {0}
+unfolding observedArb observedOf judgedBlock ungrantedArb probationOf droppedBlock haltLatchArb haltLatchOf agedArb pendedArb grants grantedArb
+opens-fall-grants = tt
+
+opens-fall-commits : Unit {0}
+unfolding gatedOf refilledOf blindsArb blindsOf commitBlock commitArb commitOf tenureArb tenureOf pendArb pendOf readyBlock readinessOf seizedBlock seizureOf
+opens-fall-commits = tt
+
+opens-fall : Unit {0}
+unfolding opens-fall-decides opens-fall-grants opens-fall-commits
+opens-fall = tt
+
+opens-moves : Unit {0}
+unfolding busAnswer busRefusal wrongLengths busPairs busState busTaken pairsOf takenOf nextByteOf advancedOf cursorAfter blockAfter arbAfter
+opens-moves = tt
+
+opens-switches : Unit {0}
+unfolding switchCallOf switchRefusal switchedOf defers switch.readyBlock outcomeOf ungranted cutOf discardedOf gradedOf upwardOf engineAfter blackoutOf
+opens-switches = tt
+
+opens-drains-blackout : Unit {0}
+unfolding blackoutCallOf drainedOf
+opens-drains-blackout = tt
+
+opens-stores : Unit {0}
+unfolding vramRun busVram vramAfter sourceByte
+opens-stores = tt
+
+opens-deposits : Unit {0}
+unfolding busOam oamAfter bytesOf deposited sourceByte oamWith
+opens-deposits = tt
+
+opens-arbitrates : Unit {0}
+unfolding arbitrationCallOf arbitratedOf arbitrationOf contends stalls willMove
+opens-arbitrates = tt
+
 case1 : (mode : ℕ) → mode < 4 → K1 mode
-unfolding start afterOne afterCalls step ledgerInput writeOf accessRefusal unreached placeOf mapWriteOf storedOf locksAt hdma5Written armedOf cancelledOf startedOf statusByte powerOnOf dmaAtRest afterCall afterPairs followed empty fallCallOf fallRefusal fallenState fallOf viewOf ranOf decidedOf stages.startedOf servedOf observedArb observedOf judgedBlock ungrantedArb probationOf droppedBlock haltLatchArb haltLatchOf agedArb pendedArb grants grantedArb gatedOf refilledOf blindsArb blindsOf commitBlock commitArb commitOf tenureArb tenureOf pendArb pendOf readyBlock readinessOf seizedBlock seizureOf settledOf movingOf seizesBus busAnswer busRefusal wrongLengths busPairs busState busTaken pairsOf takenOf nextByteOf advancedOf cursorAfter blockAfter arbAfter afterPair vramRun busVram vramAfter sourceByte
-case1 zero h = record { moved = is-same _ _ refl; reads = ff55-by 0xFF (k1 0) refl; counted = (refl, refl); stored = λ cartridge wram vram. refl }
-case1 (suc zero) h = record { moved = is-same _ _ refl; reads = ff55-by 0xFF (k1 1) refl; counted = (refl, refl); stored = λ cartridge wram vram. refl }
-case1 (suc (suc zero)) h = record { moved = is-same _ _ refl; reads = ff55-by 0xFF (k1 2) refl; counted = (refl, refl); stored = λ cartridge wram vram. refl }
-case1 (suc (suc (suc zero))) h = record { moved = is-same _ _ refl; reads = ff55-by 0xFF (k1 3) refl; counted = (refl, refl); stored = λ cartridge wram vram. refl }
+unfolding opens-runs opens-writes opens-fall opens-moves opens-stores
+case1 zero h =
+    record {
+      moved = is-same _ _ refl;
+      reads = ff55-by 0xFF (k1 0) refl;
+      counted = (refl, refl);
+      stored = λ cartridge wram vram. refl;
+    }
+case1 (suc zero) h =
+    record {
+      moved = is-same _ _ refl;
+      reads = ff55-by 0xFF (k1 1) refl;
+      counted = (refl, refl);
+      stored = λ cartridge wram vram. refl;
+    }
+case1 (suc (suc zero)) h =
+    record {
+      moved = is-same _ _ refl;
+      reads = ff55-by 0xFF (k1 2) refl;
+      counted = (refl, refl);
+      stored = λ cartridge wram vram. refl;
+    }
+case1 (suc (suc (suc zero))) h =
+    record {
+      moved = is-same _ _ refl;
+      reads = ff55-by 0xFF (k1 3) refl;
+      counted = (refl, refl);
+      stored = λ cartridge wram vram. refl;
+    }
 case1 (suc (suc (suc (suc m)))) h = absurd (omega arith)
 
 case2 : K2
-unfolding start afterOne afterCalls step ledgerInput writeOf accessRefusal unreached placeOf mapWriteOf storedOf locksAt hdma5Written armedOf cancelledOf startedOf statusByte powerOnOf dmaAtRest afterCall afterPairs followed empty fallCallOf fallRefusal fallenState fallOf viewOf ranOf decidedOf stages.startedOf servedOf observedArb observedOf judgedBlock ungrantedArb probationOf droppedBlock haltLatchArb haltLatchOf agedArb pendedArb grants grantedArb gatedOf refilledOf blindsArb blindsOf commitBlock commitArb commitOf tenureArb tenureOf pendArb pendOf readyBlock readinessOf seizedBlock seizureOf settledOf movingOf seizesBus busAnswer busRefusal wrongLengths busPairs busState busTaken pairsOf takenOf nextByteOf advancedOf cursorAfter blockAfter arbAfter afterPair
-case2 = record { second = ff55-by 0x00 (run (two-falls 0x80 tt)) refl; third = ff55-by 0xFF (run (two-falls 0x80 tt ++ (falls 0 ∷ []))) refl; fourth = refl; fifth = refl; moved = is-same _ _ refl }
+unfolding opens-runs opens-writes opens-fall opens-moves
+case2 =
+    record {
+      second = ff55-by 0x00 (run (two-falls 0x80 tt)) refl;
+      third = ff55-by 0xFF (run (two-falls 0x80 tt ++ (falls 0 ∷ []))) refl;
+      fourth = refl;
+      fifth = refl;
+      moved = is-same _ _ refl;
+    }
 
 case3 : K3
-unfolding start afterOne afterCalls step ledgerInput writeOf accessRefusal unreached placeOf mapWriteOf storedOf locksAt hdma5Written armedOf cancelledOf startedOf statusByte powerOnOf dmaAtRest afterCall afterPairs followed empty
+unfolding opens-runs opens-writes
 case3 = record { reads = ff55-by 0x80 (run (to 0xFF55 0x83 tt ∷ to 0xFF55 0x00 tt ∷ [])) refl }
 
 case4 : K4
-unfolding start afterOne afterCalls step ledgerInput writeOf accessRefusal unreached placeOf mapWriteOf storedOf locksAt hdma5Written armedOf cancelledOf startedOf statusByte powerOnOf dmaAtRest afterCall afterPairs followed empty fallCallOf fallRefusal fallenState fallOf viewOf ranOf decidedOf stages.startedOf servedOf observedArb observedOf judgedBlock ungrantedArb probationOf droppedBlock haltLatchArb haltLatchOf agedArb pendedArb grants grantedArb gatedOf refilledOf blindsArb blindsOf commitBlock commitArb commitOf tenureArb tenureOf pendArb pendOf readyBlock readinessOf seizedBlock seizureOf settledOf movingOf seizesBus busAnswer busRefusal wrongLengths busPairs busState busTaken pairsOf takenOf nextByteOf advancedOf cursorAfter blockAfter arbAfter afterPair
+unfolding opens-runs opens-writes opens-fall opens-moves
 case4 = record { moved = is-same _ _ refl; cut-off = refl; left = refl }
 
 case5 : K5
-unfolding start afterOne afterCalls step ledgerInput writeOf accessRefusal unreached placeOf mapWriteOf storedOf locksAt hdma5Written armedOf cancelledOf startedOf statusByte powerOnOf dmaAtRest afterCall afterPairs followed empty fallCallOf fallRefusal fallenState fallOf viewOf ranOf decidedOf stages.startedOf servedOf observedArb observedOf judgedBlock ungrantedArb probationOf droppedBlock haltLatchArb haltLatchOf agedArb pendedArb grants grantedArb gatedOf refilledOf blindsArb blindsOf commitBlock commitArb commitOf tenureArb tenureOf pendArb pendOf readyBlock readinessOf seizedBlock seizureOf settledOf movingOf seizesBus busAnswer busRefusal wrongLengths busPairs busState busTaken pairsOf takenOf nextByteOf advancedOf cursorAfter blockAfter arbAfter afterPair
+unfolding opens-runs opens-writes opens-fall opens-moves
 case5 = record { moved = is-same _ _ refl; cut-off = refl }
 
 case6 : K6
-unfolding start afterOne afterCalls step ledgerInput writeOf accessRefusal unreached placeOf mapWriteOf storedOf locksAt hdma5Written armedOf cancelledOf startedOf statusByte powerOnOf dmaAtRest afterCall afterPairs followed empty fallCallOf fallRefusal fallenState fallOf viewOf ranOf decidedOf stages.startedOf servedOf observedArb observedOf judgedBlock ungrantedArb probationOf droppedBlock haltLatchArb haltLatchOf agedArb pendedArb grants grantedArb gatedOf refilledOf blindsArb blindsOf commitBlock commitArb commitOf tenureArb tenureOf pendArb pendOf readyBlock readinessOf seizedBlock seizureOf settledOf movingOf seizesBus busAnswer busRefusal wrongLengths busPairs busState busTaken pairsOf takenOf nextByteOf advancedOf cursorAfter blockAfter arbAfter afterPair switchCallOf switchRefusal switchedOf defers switch.readyBlock outcomeOf ungranted cutOf discardedOf gradedOf upwardOf engineAfter blackoutOf blackoutCallOf drainedOf stateRefusal
+unfolding opens-runs opens-writes opens-fall opens-moves opens-switches opens-drains-blackout
 case6 = record { cut = refl; moved = is-same _ _ refl; free = refl; left = (refl, refl); reads = ff55-by 0x80 k6 refl }
 
 case7 : K7
-unfolding start afterOne afterCalls step ledgerInput writeOf accessRefusal unreached placeOf mapWriteOf storedOf locksAt hdma5Written armedOf cancelledOf startedOf statusByte powerOnOf dmaAtRest afterCall afterPairs followed empty switchCallOf switchRefusal switchedOf defers switch.readyBlock outcomeOf ungranted cutOf discardedOf gradedOf upwardOf engineAfter blackoutOf blackoutCallOf drainedOf stateRefusal
+unfolding opens-runs opens-writes opens-switches opens-drains-blackout
 case7 = record { up = refl; down = refl; again = refl }
 
 case8 : K8
-unfolding start afterOne afterCalls step ledgerInput writeOf accessRefusal unreached placeOf mapWriteOf storedOf locksAt hdma5Written armedOf cancelledOf startedOf statusByte powerOnOf dmaAtRest afterCall afterPairs followed empty fallCallOf fallRefusal fallenState fallOf viewOf ranOf decidedOf stages.startedOf servedOf observedArb observedOf judgedBlock ungrantedArb probationOf droppedBlock haltLatchArb haltLatchOf agedArb pendedArb grants grantedArb gatedOf refilledOf blindsArb blindsOf commitBlock commitArb commitOf tenureArb tenureOf pendArb pendOf readyBlock readinessOf seizedBlock seizureOf settledOf movingOf seizesBus busAnswer busRefusal wrongLengths busPairs busState busTaken pairsOf takenOf nextByteOf advancedOf cursorAfter blockAfter arbAfter afterPair busOam oamAfter bytesOf deposited sourceByte oamWith arbitrationCallOf arbitratedOf arbitrationOf contends stalls willMove stateRefusal
+unfolding opens-runs opens-writes opens-fall opens-moves opens-deposits opens-arbitrates
 case8 =
     record {
       block-edge = refl;
@@ -125,7 +207,7 @@ case8 =
     }
 
 case10 : K10
-unfolding start afterOne afterCalls step ledgerInput writeOf accessRefusal unreached placeOf mapWriteOf storedOf locksAt hdma5Written armedOf cancelledOf startedOf statusByte powerOnOf dmaAtRest afterCall afterPairs followed empty
+unfolding opens-runs opens-writes
 case10 = record { reads = ff55-by 0xFF (afterCalls compatMode (start compatMode) (to 0xFF55 0x00 tt ∷ [])) refl }
 
 pub cases : Cases

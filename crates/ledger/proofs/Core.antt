@@ -10,7 +10,7 @@ use Rattle.console.specs.declared.vram_dma.VramDma.{VramDma}
 use Rattle.fall_edge.specs.declared.FallInput.{FallInput}
 use Rattle.fall_edge.proofs.Steps.{fall-steps}
 use Rattle.speed_switch.specs.Blackout.{drainedOf, wokenOf}
-use Rattle.transfer.specs.Latch.{latchesDark, latchedOf, unclaimed, lcdDisabledOf, retiredOf}
+use Rattle.transfer.specs.Latch.{latchesDark, latchedOf, unclaimed, lcdDisabledOf}
 use Rattle.engine.specs.Fall.{fallen, fallenState}
 
 pub record Core : Type 0 where

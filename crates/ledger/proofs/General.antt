@@ -1,5 +1,5 @@
 -- The General clause: the pairs of a bus call directly after a fall, in status General and with no set-up cell. Assumes nothing.
-use Prim.Native.Nat.{ℕ, zero, suc, _+_, _<_}
+use Prim.Native.Nat.{ℕ, zero, suc, _<_}
 use native.Mathlib.Omega.{arith}
 use mathlib.Core.Path.{_≡_, refl, sym, ap, subst, _∙_}
 use mathlib.Core.Bool.{Bool, true, false, cond, false≢true}
@@ -16,19 +16,18 @@ use Rattle.console.specs.declared.vram_dma.TransferMode.{TransferMode}
 use Rattle.console.specs.declared.vram_dma.TransferMode.the-variants as mode
 use Rattle.console.specs.declared.vram_dma.VramDma.{VramDma}
 use Rattle.console.proofs.Reached as seven
-use Rattle.bus.specs.Commit.{Taken, nothing, after, takenOf, pairsOf, holdsBus, setupStands, busTaken}
+use Rattle.bus.specs.Commit.{after, takenOf, pairsOf, holdsBus, setupStands}
 use Rattle.bus.specs.declared.commit.BusInput.{BusInput}
 use Rattle.bus.proofs.Committed.{moving}
-use Rattle.transfer.specs.Pair.{movingOf, quotaOf, leftAfter, cursorAfter, advancedOf, pairOf, nextByteOf}
+use Rattle.transfer.specs.Pair.{movingOf, quotaOf, leftAfter, cursorAfter, advancedOf}
 use Rattle.transfer.specs.Questions.{statusIn}
 use Rattle.transfer.specs.Questions as transfer
 use Rattle.transfer.specs.Steps.{Ready, Moved}
 use Rattle.transfer.specs.declared.VramDmaStatus.the-variants as dma
 use Rattle.transfer.specs.declared.pair.NextByte.{NextByte}
-use Rattle.transfer.specs.declared.pair.NextAnswer.the-variants as next
 use Rattle.transfer.proofs.Steps.{pair-steps, steps}
 use Rattle.fall_edge.proofs.Refills.{general-moves}
-use Rattle.bus_calls.specs.BusCall.{Lengths, busRefusal, takenIn, busPairs}
+use Rattle.bus_calls.specs.BusCall.{Lengths, busRefusal, busPairs}
 use Rattle.queries.specs.Query.{statusOf}
 use Rattle.answers.specs.Answers.{stateRefusal}
 use Rattle.answers.specs.declared.StatusAnswer.the-variants.{Status, Refused}

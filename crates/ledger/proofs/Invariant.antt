@@ -4,48 +4,37 @@ use Prim.Native.Nat.{ℕ, _+_, _<_, _≤_}
 use native.Mathlib.Omega.{arith}
 use mathlib.Core.Path.{_≡_, refl, sym, ap, subst, _∙_}
 use mathlib.Core.Bool.{Bool, true, false, cond, not, _&&_, _||_, false≢true}
-use mathlib.Core.List.{List, [], _∷_}
-use native.Mathlib.Nat.{le-refl}
+use mathlib.Core.List.{List}
 use lib.Dec.{eqb, ltb, lit<}
 use lib.ListN.{length}
-use borrow.Author.Tests.{eqb-true}
 use Rattle.console.specs.Reached.{unreached}
-use Rattle.console.specs.Set.{withVramDma, withDmaOam}
+use Rattle.console.specs.Set.{withVramDma}
 use Rattle.console.specs.declared.Cgb.{Cgb}
 use Rattle.console.specs.declared.vram_dma.TransferCursor.{TransferCursor}
 use Rattle.console.specs.declared.vram_dma.VramDma.{VramDma}
 use Rattle.console.proofs.Refusals.{NoneHolds}
-use Rattle.bus.specs.declared.arbitration.ArbitrationInput.{ArbitrationInput}
-use Rattle.bus.specs.declared.commit.BusInput.{BusInput}
 use Rattle.fall_edge.specs.declared.FallInput.{FallInput}
 use Rattle.fall_edge.proofs.Steps.{fall-steps}
 use Rattle.fall_edge.proofs.Refills.{refills}
 use Rattle.registers.specs.Write.{mapWriteOf}
 use Rattle.registers.specs.declared.WriteInput.{WriteInput}
-use Rattle.speed_switch.specs.Blackout.{drainedOf, wokenOf}
 use Rattle.speed_switch.specs.Switch.{readyBlock, outcomeOf, ungranted, cutOf, discardedOf, gradedOf, upwardOf, engineAfter, switchedOf}
 use Rattle.speed_switch.specs.declared.switch.SwitchInput.{SwitchInput}
-use Rattle.speed_switch.specs.declared.switch.SwitchOutcome.{SwitchOutcome}
 use Rattle.speed_switch.specs.declared.switch.SwitchOutcome.the-variants.{None, Discarded, Cut}
-use Rattle.transfer.specs.Latch.{retiredOf}
-use Rattle.transfer.specs.Pair.{movingOf, quotaOf, nextByteOf, drainOf}
+use Rattle.transfer.specs.Pair.{movingOf, quotaOf, drainOf}
 use Rattle.transfer.specs.declared.pair.BytePair.{BytePair}
-use Rattle.transfer.specs.declared.pair.NextAnswer.{NextAnswer}
 use Rattle.transfer.specs.declared.pair.NextAnswer.the-variants as next
 use Rattle.transfer.specs.declared.pair.NextByte.{NextByte}
 use Rattle.transfer.proofs.Steps.{pair-steps}
-use Rattle.bus_calls.specs.Access.{accessRefusal}
-use Rattle.bus_calls.specs.Bus.{arbitrated}
-use Rattle.bus_calls.specs.BusCall.{Lengths, takenIn}
-use Rattle.engine.specs.Fall.{fallen, fallRefusal, fallenState}
+use Rattle.engine.specs.Fall.{fallen, fallenState}
 use Rattle.ledger.specs.LedgerInput.{Configuration, LedgerInput, a-write, a-fall, a-switch, a-drain, another, Reply, accepts, isFall, isDrain}
 use Rattle.ledger.specs.Ledger.{Ledger, afterCut, effect, afterPairs, afterCall}
 use Rattle.ledger.specs.Calls
 use Rattle.ledger.specs.Calls.{Call, Outcome, step, ledgerInput}
 use Rattle.ledger.specs.Demand3.{NextPairs, no-more, Balanced}
-use Rattle.ledger.proofs.Bools.{and-left, and-right, either}
-use Rattle.ledger.proofs.Core.{Core, under, coreOf, quota, fall-core, lcd-core, lcd-quota, blackout-core, blackout-quota, wake-core, wake-quota}
-use Rattle.ledger.proofs.AcceptedOrDeclined.{Given, quiet, giving, accepting, declined, pairOf, cuts, reasonsOf, numberOf, givenBy, either-way}
+use Rattle.ledger.proofs.Core.{Core, under, coreOf, quota, fall-core, lcd-core, lcd-quota, blackout-core, blackout-quota, wake-core}
+use Rattle.ledger.proofs.Core.{wake-quota}
+use Rattle.ledger.proofs.AcceptedOrDeclined.{quiet, giving, accepting, declined, pairOf, cuts, reasonsOf, numberOf, givenBy, either-way}
 use Rattle.ledger.proofs.PairsMatch.{Match, PairsMatch, next-match, drain-match, bus-match}
 use Rattle.ledger.proofs.Writes.{write-match, write-quota}
 

@@ -1,6 +1,6 @@
 -- Every call, accepted or declined, is followed by a state that passes refusal 7 where the one before it does. Assumes nothing.
-use mathlib.Core.Path.{_≡_, refl}
-use mathlib.Core.Bool.{Bool, true, false, not}
+use mathlib.Core.Path.{_≡_}
+use mathlib.Core.Bool.{false, not}
 use Rattle.console.specs.Reached.{unreached, Reached, Sound}
 use Rattle.console.specs.Set.{withVramDma}
 use Rattle.console.specs.declared.Cgb.{Cgb}
@@ -16,7 +16,7 @@ use Rattle.bus.proofs.Sound.{bus-sound}
 use Rattle.engine.specs.Fall.{fallen, fallenState}
 use Rattle.ledger.specs.Calls
 use Rattle.ledger.specs.Calls.{Call, Outcome, step}
-use Rattle.ledger.proofs.AcceptedOrDeclined.{Given, givenBy, either-way}
+use Rattle.ledger.proofs.AcceptedOrDeclined.{givenBy, either-way}
 
 module _ (s : Cgb) (r : Reached s) where
   -- a call that gives another engine in the state's place
@@ -31,7 +31,8 @@ module _ (s : Cgb) (r : Reached s) where
   given-keeps Calls.next-pair = with-sound _ (next-sound (s .«vram_dma»))
   given-keeps Calls.escape-drain = with-sound _ (drain-sound (s .«vram_dma»))
   given-keeps (Calls.bus-call i n) = with-sound _ (bus-sound i (s .«vram_dma»))
-  given-keeps (Calls.switch-speed i) = with-sound (engineAfter (not (s .«double_speed»)) (s .«vram_dma»)) (switch-sound (not (s .«double_speed»)) (s .«vram_dma»))
+  given-keeps (Calls.switch-speed i) =
+      let up = not (s .«double_speed») in with-sound (engineAfter up (s .«vram_dma»)) (switch-sound up (s .«vram_dma»))
   given-keeps Calls.lcd-off = with-sound _ (lcd-sound (s .«vram_dma»))
   given-keeps Calls.retired = with-sound _ (retired-sound (s .«vram_dma»))
   given-keeps (Calls.blackout elapsed) = r

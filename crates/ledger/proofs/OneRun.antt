@@ -2,9 +2,7 @@
 -- one run (specs, `OneRun`). Assumes nothing.
 use Prim.Native.Nat.{ℕ}
 use mathlib.Core.Path.{_≡_, refl, sym, ap, subst, _∙_}
-use mathlib.Core.Bool.{Bool, true, false, cond}
 use mathlib.Core.List.{List, [], _∷_}
-use lib.Dec.{eqb}
 use lib.ListN.{length, replicate, length-replicate}
 use contract.Lifetimes.{Lfts}
 use denote.Ref.{RefT, now}
@@ -14,7 +12,7 @@ use Rattle.bus.specs.declared.commit.BusInput.{BusInput}
 use Rattle.registers.specs.declared.WriteInput.{WriteInput}
 use Rattle.bus_calls.specs.Access.{readOf, writeOf, writeWram}
 use Rattle.bus_calls.specs.Bus.{arbitrationCallOf, conflictCallOf}
-use Rattle.bus_calls.specs.BusCall.{Lengths, lengthsOf, busOf, busVram, busOam}
+use Rattle.bus_calls.specs.BusCall.{lengthsOf, busOf, busVram, busOam}
 use Rattle.engine.specs.Fall.{fallCallOf}
 use Rattle.engine.specs.Lcd.{lcdCallOf, retiredCallOf}
 use Rattle.engine.specs.Pair.{nextPairOf, escapeDrainOf}
@@ -26,7 +24,7 @@ use Rattle.ledger.specs.Calls.{Call, Outcome, step}
 use Rattle.ledger.specs.Code
 use Rattle.ledger.specs.Code.{Returned}
 use Rattle.ledger.specs.LedgerInput.{Configuration}
-use Rattle.ledger.specs.Demand3.{History, from-power-on, then, RunsTo, at-power-on, called, Event}
+use Rattle.ledger.specs.Demand3.{History, from-power-on, then, RunsTo, at-power-on, called}
 use Rattle.ledger.specs.OneRun.{configurationOf, callsOf, RunOf, OneRun}
 use Rattle.ledger.proofs.Tied.{returned-step}
 use Rattle.ledger.proofs.AnswerValues as told
@@ -46,6 +44,9 @@ pub record Some (s : Cgb) (c : Call) : Type 0 where
   pub outcome : Outcome
   pub returned : Returned s c outcome
 
+some-by : {s : Cgb} {c : Call} {o : Outcome} → Returned s c o → Some s c
+some-by {o = o} r = record { outcome = o; returned = r }
+
 -- some list has the length n
 sized : (P : ℕ → Type 0) (n : ℕ) → ((bytes : List ℕ) → P (length bytes)) → P n
 sized P n f = subst P (length-replicate {A = ℕ} n 0) (f (replicate n 0))
@@ -54,38 +55,30 @@ module _ (s : Cgb) where
   write-some : (a : ℕ) (w : WriteInput) (byte : _) (wram : List ℕ) → Some s (Calls.write a w (length wram) byte)
   unfolding slice κ1
   write-some a w byte wram =
-      record {
-        outcome = _;
-        returned =
-            Code.by-write κ1 (slice wram) a w byte (writeOf s w a (length wram))
-            (record {
-              exit = (s, (slice (writeWram s w a wram), (a, (w, tt))));
-              told = record { result = refl; says = told.write-told s w a (length wram); memory = refl };
-            });
-      }
+      some-by
+      (Code.by-write κ1 (slice wram) a w byte (writeOf s w a (length wram))
+      (record {
+        exit = (s, (slice (writeWram s w a wram), (a, (w, tt))));
+        told = record { result = refl; says = told.write-told s w a (length wram); memory = refl };
+      }))
 
   read-some : (a : ℕ) (wram : List ℕ) → Some s (Calls.read a (length wram))
   unfolding slice κ1
   read-some a wram =
-      record {
-        outcome = _;
-        returned =
-            Code.by-read κ1 (slice wram) a (readOf s wram a)
-            (record { exit = (s, (slice wram, (a, tt))); told = record { is = refl; says = told.read-told s wram a } });
-      }
+      some-by
+      (Code.by-read κ1 (slice wram) a (readOf s wram a)
+      (record { exit = (s, (slice wram, (a, tt))); told = record { is = refl; says = told.read-told s wram a } }))
 
   bus-some : (i : BusInput) (c w v o : List ℕ) → Some s (Calls.bus-call i (lengthsOf c w v o))
   unfolding slice κ4
   bus-some i c w v o =
-      record {
-        outcome = _;
-        returned =
-            Code.by-bus-call κ4 i (slice c) (slice w) (slice v) (slice o) (busOf s i c w v o)
-            (record {
-              exit = (s, (i, (slice c, (slice w, (slice (busVram s i (lengthsOf c w v o) c w v), (slice (busOam s i (lengthsOf c w v o) c w o), tt))))));
-              told = record { result = refl; says = told.bus-told s i c w v o; stored = refl; deposit = refl };
-            });
-      }
+      let n = lengthsOf c w v o in
+      some-by
+      (Code.by-bus-call κ4 i (slice c) (slice w) (slice v) (slice o) (busOf s i c w v o)
+      (record {
+        exit = (s, (i, (slice c, (slice w, (slice (busVram s i n c w v), (slice (busOam s i n c w o), tt))))));
+        told = record { result = refl; says = told.bus-told s i c w v o; stored = refl; deposit = refl };
+      }))
 
   pub some-call : (c : Call) → Some s c
   some-call (Calls.write a w n byte) = sized (λ k. Some s (Calls.write a w k byte)) n (write-some a w byte)
@@ -96,29 +89,62 @@ module _ (s : Cgb) where
       sized (λ k. Some s (Calls.bus-call i (record { cartridge = length c; wram = length w; vram = k; oam = n .oam }))) (n .vram) (λ v.
       sized (λ k. Some s (Calls.bus-call i (record { cartridge = length c; wram = length w; vram = length v; oam = k }))) (n .oam) (λ o.
       bus-some i c w v o))))
-  some-call (Calls.fall i) = record { outcome = _; returned = Code.by-fall i (fallCallOf s i) (record { exit = (s, (i, tt)); told = record { is = refl; says = told.fall-told s i } }) }
-  some-call Calls.next-pair = record { outcome = _; returned = Code.by-next-pair (nextPairOf s) (record { exit = (s, tt); told = record { is = refl; says = told.next-told s } }) }
-  some-call Calls.escape-drain = record { outcome = _; returned = Code.by-escape-drain (escapeDrainOf s) (record { exit = (s, tt); told = record { is = refl; says = told.drain-told s } }) }
-  some-call (Calls.switch-speed i) = record { outcome = _; returned = Code.by-switch-speed i (switchCallOf s i) (record { exit = (s, (i, tt)); told = record { is = refl; says = told.switch-told s i } }) }
-  some-call Calls.lcd-off = record { outcome = _; returned = Code.by-lcd-off (lcdCallOf s) (record { exit = (s, tt); told = record { is = refl; says = told.lcd-told s } }) }
-  some-call Calls.retired = record { outcome = _; returned = Code.by-retired (retiredCallOf s) (record { exit = (s, tt); told = record { is = refl; says = told.retired-told s } }) }
-  some-call (Calls.blackout elapsed) = record { outcome = _; returned = Code.by-blackout elapsed (blackoutCallOf s elapsed) (record { exit = (s, (elapsed, tt)); told = record { is = refl; says = told.blackout-told s elapsed } }) }
-  some-call (Calls.wake boundary) = record { outcome = _; returned = Code.by-wake boundary (wakeCallOf s boundary) (record { exit = (s, (boundary, tt)); told = record { is = refl; says = told.wake-told s boundary } }) }
-  some-call (Calls.arbitrate i) = record { outcome = _; returned = Code.by-arbitrate i (arbitrationCallOf s i) (record { exit = (s, (i, tt)); told = record { is = refl; says = told.arbitrate-told s i } }) }
-  some-call (Calls.conflict a) = record { outcome = _; returned = Code.by-conflict a (conflictCallOf s a) (record { exit = (s, (a, tt)); told = record { is = refl; says = told.conflict-told s a } }) }
-  some-call (Calls.query Calls.tally) = record { outcome = _; returned = Code.by-tally (tallyOf s) (record { exit = (s, tt); told = record { is = refl; says = told.tally-told s } }) }
-  some-call (Calls.query Calls.status) = record { outcome = _; returned = Code.by-status (statusOf s) (record { exit = (s, tt); told = record { is = refl; says = told.status-told s } }) }
-  some-call (Calls.query Calls.claim) = record { outcome = _; returned = Code.by-claim (claimOf s) (record { exit = (s, tt); told = record { is = refl; says = told.claim-told s } }) }
-  some-call (Calls.query Calls.park) = record { outcome = _; returned = Code.by-park (flagOf s (parkWaits s)) (record { exit = (s, tt); told = record { is = refl; says = told.flag-told s (parkWaits s) } }) }
-  some-call (Calls.query Calls.request) = record { outcome = _; returned = Code.by-request (flagOf s (requestStands s)) (record { exit = (s, tt); told = record { is = refl; says = told.flag-told s (requestStands s) } }) }
-  some-call (Calls.query Calls.holds) = record { outcome = _; returned = Code.by-holds (flagOf s (holdsCpu s)) (record { exit = (s, tt); told = record { is = refl; says = told.flag-told s (holdsCpu s) } }) }
-  some-call (Calls.query Calls.seizes) = record { outcome = _; returned = Code.by-seizes (flagOf s (seizesBus s)) (record { exit = (s, tt); told = record { is = refl; says = told.flag-told s (seizesBus s) } }) }
-  some-call (Calls.query Calls.in-progress) = record { outcome = _; returned = Code.by-in-progress (flagOf s (switchInProgress s)) (record { exit = (s, tt); told = record { is = refl; says = told.flag-told s (switchInProgress s) } }) }
-  some-call (Calls.query Calls.divider) = record { outcome = _; returned = Code.by-divider (flagOf s (dividerRuns s)) (record { exit = (s, tt); told = record { is = refl; says = told.flag-told s (dividerRuns s) } }) }
-  some-call (Calls.query Calls.double-speed) = record { outcome = _; returned = Code.by-double-speed (flagOf s (atDoubleSpeed s)) (record { exit = (s, tt); told = record { is = refl; says = told.flag-told s (atDoubleSpeed s) } }) }
-  some-call (Calls.query Calls.steps) = record { outcome = _; returned = Code.by-steps (byteOf s (cpuSteps s)) (record { exit = (s, tt); told = record { is = refl; says = told.byte-told s (cpuSteps s) } }) }
-  some-call (Calls.query Calls.bank) = record { outcome = _; returned = Code.by-bank (byteOf s (bankSelected s)) (record { exit = (s, tt); told = record { is = refl; says = told.byte-told s (bankSelected s) } }) }
-  some-call (Calls.query Calls.svbk) = record { outcome = _; returned = Code.by-svbk (byteOf s (svbkWritten s)) (record { exit = (s, tt); told = record { is = refl; says = told.byte-told s (svbkWritten s) } }) }
+  some-call (Calls.fall i) =
+      some-by (Code.by-fall i (fallCallOf s i) (record { exit = (s, (i, tt)); told = record { is = refl; says = told.fall-told s i } }))
+  some-call Calls.next-pair =
+      some-by (Code.by-next-pair (nextPairOf s) (record { exit = (s, tt); told = record { is = refl; says = told.next-told s } }))
+  some-call Calls.escape-drain =
+      some-by (Code.by-escape-drain (escapeDrainOf s) (record { exit = (s, tt); told = record { is = refl; says = told.drain-told s } }))
+  some-call (Calls.switch-speed i) =
+      some-by (Code.by-switch-speed i (switchCallOf s i) (record { exit = (s, (i, tt)); told = record { is = refl; says = told.switch-told s i } }))
+  some-call Calls.lcd-off =
+      some-by (Code.by-lcd-off (lcdCallOf s) (record { exit = (s, tt); told = record { is = refl; says = told.lcd-told s } }))
+  some-call Calls.retired =
+      some-by (Code.by-retired (retiredCallOf s) (record { exit = (s, tt); told = record { is = refl; says = told.retired-told s } }))
+  some-call (Calls.blackout elapsed) =
+      some-by
+      (Code.by-blackout elapsed (blackoutCallOf s elapsed)
+      (record { exit = (s, (elapsed, tt)); told = record { is = refl; says = told.blackout-told s elapsed } }))
+  some-call (Calls.wake boundary) =
+      some-by
+      (Code.by-wake boundary (wakeCallOf s boundary)
+      (record { exit = (s, (boundary, tt)); told = record { is = refl; says = told.wake-told s boundary } }))
+  some-call (Calls.arbitrate i) =
+      some-by (Code.by-arbitrate i (arbitrationCallOf s i) (record { exit = (s, (i, tt)); told = record { is = refl; says = told.arbitrate-told s i } }))
+  some-call (Calls.conflict a) =
+      some-by (Code.by-conflict a (conflictCallOf s a) (record { exit = (s, (a, tt)); told = record { is = refl; says = told.conflict-told s a } }))
+  some-call (Calls.query Calls.tally) =
+      some-by (Code.by-tally (tallyOf s) (record { exit = (s, tt); told = record { is = refl; says = told.tally-told s } }))
+  some-call (Calls.query Calls.status) =
+      some-by (Code.by-status (statusOf s) (record { exit = (s, tt); told = record { is = refl; says = told.status-told s } }))
+  some-call (Calls.query Calls.claim) =
+      some-by (Code.by-claim (claimOf s) (record { exit = (s, tt); told = record { is = refl; says = told.claim-told s } }))
+  some-call (Calls.query Calls.park) =
+      some-by (Code.by-park (flagOf s (parkWaits s)) (record { exit = (s, tt); told = record { is = refl; says = told.flag-told s (parkWaits s) } }))
+  some-call (Calls.query Calls.request) =
+      some-by
+      (Code.by-request (flagOf s (requestStands s))
+      (record { exit = (s, tt); told = record { is = refl; says = told.flag-told s (requestStands s) } }))
+  some-call (Calls.query Calls.holds) =
+      some-by (Code.by-holds (flagOf s (holdsCpu s)) (record { exit = (s, tt); told = record { is = refl; says = told.flag-told s (holdsCpu s) } }))
+  some-call (Calls.query Calls.seizes) =
+      some-by (Code.by-seizes (flagOf s (seizesBus s)) (record { exit = (s, tt); told = record { is = refl; says = told.flag-told s (seizesBus s) } }))
+  some-call (Calls.query Calls.in-progress) =
+      some-by
+      (Code.by-in-progress (flagOf s (switchInProgress s))
+      (record { exit = (s, tt); told = record { is = refl; says = told.flag-told s (switchInProgress s) } }))
+  some-call (Calls.query Calls.divider) =
+      some-by (Code.by-divider (flagOf s (dividerRuns s)) (record { exit = (s, tt); told = record { is = refl; says = told.flag-told s (dividerRuns s) } }))
+  some-call (Calls.query Calls.double-speed) =
+      some-by
+      (Code.by-double-speed (flagOf s (atDoubleSpeed s))
+      (record { exit = (s, tt); told = record { is = refl; says = told.flag-told s (atDoubleSpeed s) } }))
+  some-call (Calls.query Calls.steps) =
+      some-by (Code.by-steps (byteOf s (cpuSteps s)) (record { exit = (s, tt); told = record { is = refl; says = told.byte-told s (cpuSteps s) } }))
+  some-call (Calls.query Calls.bank) =
+      some-by (Code.by-bank (byteOf s (bankSelected s)) (record { exit = (s, tt); told = record { is = refl; says = told.byte-told s (bankSelected s) } }))
+  some-call (Calls.query Calls.svbk) =
+      some-by (Code.by-svbk (byteOf s (svbkWritten s)) (record { exit = (s, tt); told = record { is = refl; says = told.byte-told s (svbkWritten s) } }))
 
 some : (k : Configuration) (calls : List Call) → RunOf k calls
 some k [] =

@@ -1,20 +1,19 @@
 -- Pairs, in the engine and in the ledger: each pair is the ledger's next, and both go on alike. Assumes nothing.
-use Prim.Native.Nat.{ℕ, zero, suc, _+_, _-_, _%_, _<_, _≤_}
+use Prim.Native.Nat.{ℕ, zero, suc, _+_, _-_, _%_, _<_}
 use native.Mathlib.Omega.{arith}
 use mathlib.Core.Path.{_≡_, refl, sym, ap, subst, _∙_}
-use mathlib.Core.Bool.{Bool, true, false, cond, _&&_, false≢true}
+use mathlib.Core.Bool.{Bool, true, false, cond, false≢true}
 use mathlib.Core.List.{List, [], _∷_}
 use mathlib.Core.Logic.{_⊎_, inl, inr, ⊎-elim}
 use native.Mathlib.Nat.{eq-zero-or-pos}
 use lib.Dec.{ltb, eqb, lit<}
 use lib.ListN.{length}
 use borrow.Author.Tests.{ltb-true, ltb-false, eqb-true, eqb-false}
-use Rattle.console.specs.declared.vram_dma.TransferCursor.{TransferCursor}
 use Rattle.console.specs.declared.vram_dma.VramDma.{VramDma}
-use Rattle.bus.specs.Commit.{Taken, nothing, after, takenOf, pairsOf, busTaken}
+use Rattle.bus.specs.Commit.{Taken, after, takenOf, pairsOf, busTaken}
 use Rattle.bus.specs.declared.commit.BusInput.{BusInput}
 use Rattle.transfer.specs.Pair.{movingOf, pairOf, advancedOf, nextByteOf, withQuota, drainOf}
-use Rattle.transfer.specs.Steps.{Ready, Moved, PairSteps}
+use Rattle.transfer.specs.Steps.{Ready, Moved}
 use Rattle.transfer.specs.declared.pair.BytePair.{BytePair}
 use Rattle.transfer.specs.declared.pair.NextAnswer.{NextAnswer}
 use Rattle.transfer.specs.declared.pair.NextAnswer.the-variants as next
@@ -137,7 +136,9 @@ module _ (k : Configuration) (locked : Bool) (d : VramDma) (l : Ledger) (m : Mat
             quota = let fell = subst (λ (x : NextByte). Moved d (x .dma)) (steps d r) v .quota in omega arith;
           })
 
-      rests : nextByteOf d ≡ record { answer = next.None; dma = d } → PairsMatch k locked l (d .cursor .quota) (answer.pairOf (nextByteOf d .answer)) (nextByteOf d .dma)
+      rests :
+          nextByteOf d ≡ record { answer = next.None; dma = d } →
+          PairsMatch k locked l (d .cursor .quota) (answer.pairOf (nextByteOf d .answer)) (nextByteOf d .dma)
       rests is =
           subst (λ (x : NextByte). PairsMatch k locked l (d .cursor .quota) (answer.pairOf (x .answer)) (x .dma)) (sym is)
           (record { next = no-more; agree = m; quota = omega arith })

@@ -2,32 +2,32 @@
 use Prim.Native.Nat.{ℕ, _+_, _≤_, _<_}
 use native.Mathlib.Omega.{arith}
 use mathlib.Core.Path.{_≡_, refl, sym, ap, subst, _∙_}
-use mathlib.Core.Bool.{Bool, true, false, cond, _&&_}
+use mathlib.Core.Bool.{Bool, true, false, _&&_}
 use mathlib.Core.List.{List, []}
 use lib.Dec.{eqb, lit<}
 use lib.ListN.{length}
 use Rattle.console.specs.PowerOn.{powerOnOf, dmaAtRest}
 use Rattle.console.specs.Reached.{unreached}
 use Rattle.console.specs.declared.Cgb.{Cgb}
-use Rattle.bus.specs.Commit.{holdsBus, setupStands, pairsOf}
+use Rattle.bus.specs.Commit.{holdsBus, setupStands}
 use Rattle.bus.specs.declared.commit.BusInput.{BusInput}
 use Rattle.transfer.specs.Pair.{movingOf, quotaOf}
 use Rattle.transfer.specs.declared.VramDmaStatus.the-variants as dma
 use Rattle.transfer.specs.declared.pair.BytePair.{BytePair}
-use Rattle.bus_calls.specs.BusCall.{Lengths, busRefusal, busPairs}
+use Rattle.bus_calls.specs.BusCall.{Lengths, busRefusal}
 use Rattle.queries.specs.Query.{statusOf}
 use Rattle.answers.specs.declared.StatusAnswer.the-variants.{Status}
-use Rattle.ledger.specs.LedgerInput.{Configuration, Reply, accepts, isFall}
+use Rattle.ledger.specs.LedgerInput.{Configuration, accepts, isFall}
 use Rattle.ledger.specs.Ledger.{Ledger, empty, effect}
 use Rattle.ledger.specs.Calls.{Call, Outcome, bus-call, step, ledgerInput}
-use Rattle.ledger.specs.Code.{Gives, power-on, Returned}
-use Rattle.ledger.specs.Demand3.{Event, History, from-power-on, then, RunsTo, at-power-on, called, Standing, running, enters, ledgerOf}
+use Rattle.ledger.specs.Code.{Returned}
+use Rattle.ledger.specs.Demand3.{Event, History, then, RunsTo, at-power-on, called, Standing, running, enters, ledgerOf}
 use Rattle.ledger.specs.Demand3.{acceptedFall, pairsSinceFall, NextPairs, Balanced, generalPairs, Demand3}
 use Rattle.ledger.proofs.Bools.{and-left, and-right}
 use Rattle.ledger.proofs.Core.{coreOf, quota}
 use Rattle.ledger.proofs.AcceptedOrDeclined as answer
 use Rattle.ledger.proofs.PairsMatch.{Match}
-use Rattle.ledger.proofs.Invariant.{since, Invariant, CallLaws, keeps}
+use Rattle.ledger.proofs.Invariant.{since, CallLaws, keeps}
 use Rattle.ledger.proofs.Keeps.{step-keeps}
 use Rattle.ledger.proofs.General.{mode-of, general-count, held-pairs}
 use Rattle.ledger.proofs.Tied.{returned-step}

@@ -1,7 +1,7 @@
 -- What the public functions may return is what the definitions give: each function's contract, in a line. Assumes nothing.
 use Prim.Native.Nat.{ℕ, zero, suc, _≤_}
 use native.Mathlib.Omega.{arith}
-use mathlib.Core.Path.{_≡_, refl, sym, ap, _∙_}
+use mathlib.Core.Path.{_≡_, refl, ap, _∙_}
 use mathlib.Core.Bool.{Bool, true, false, cond}
 use mathlib.Core.List.{List, [], _∷_}
 use lib.Dec.{eqb}
@@ -11,13 +11,12 @@ use denote.Ref.{now}
 use Rattle.console.specs.Reached.{unreached}
 use Rattle.console.specs.declared.Cgb.{Cgb}
 use Rattle.console.specs.declared.vram_dma.VramDma.{VramDma}
-use Rattle.console.specs.Refusals.{Reason, _⇒_}
+use Rattle.console.specs.Refusals.{_⇒_}
 use Rattle.console.proofs.Reached as seven
 use Rattle.console.proofs.Refusals.{none-holds}
 use Rattle.bus.specs.Commit.{Taken, after, takenOf, pairsOf, busTaken, firstTwo}
 use Rattle.bus.specs.declared.commit.BusInput.{BusInput}
 use Rattle.transfer.specs.Pair.{nextByteOf}
-use Rattle.transfer.specs.declared.pair.BytePair.{BytePair}
 use Rattle.transfer.specs.declared.pair.NextAnswer.{NextAnswer}
 use Rattle.transfer.specs.declared.pair.NextAnswer.the-variants as next
 use Rattle.bus.specs.Deposit.{noPair}
@@ -32,10 +31,12 @@ use Rattle.answers.specs.declared.FlagAnswer.{FlagAnswer}
 use Rattle.answers.specs.declared.StatusAnswer.{StatusAnswer}
 use Rattle.answers.specs.declared.TallyAnswer.{TallyAnswer}
 use Rattle.ledger.specs.Calls
-use Rattle.ledger.specs.Calls.{Call, Outcome, handing, plain, ofDone, ofFlagged, ofFell, ofArbitrated, ofHanded, ofSwitched, ofBussed, movedIn, step}
+use Rattle.ledger.specs.Calls.{Call, Outcome, handing, plain, ofDone, ofFlagged, ofFell, ofArbitrated, ofHanded, ofSwitched}
+use Rattle.ledger.specs.Calls.{ofBussed, movedIn, step}
 use Rattle.ledger.specs.Code.{Returned, by-write, by-read, by-fall, by-next-pair, by-escape-drain, by-bus-call, by-switch-speed}
 use Rattle.ledger.specs.Code.{by-lcd-off, by-retired, by-blackout, by-wake, by-arbitrate, by-conflict, by-tally, by-status, by-claim}
-use Rattle.ledger.specs.Code.{by-park, by-request, by-holds, by-seizes, by-in-progress, by-divider, by-double-speed, by-steps, by-bank, by-svbk}
+use Rattle.ledger.specs.Code.{by-park, by-request, by-holds, by-seizes, by-in-progress, by-divider, by-double-speed, by-steps}
+use Rattle.ledger.specs.Code.{by-bank, by-svbk}
 use Rattle.ledger.proofs.AcceptedOrDeclined.{reasonsOf}
 use Rattle.ledger.proofs.BusKinds.{of-each}
 

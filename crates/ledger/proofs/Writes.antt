@@ -1,15 +1,15 @@
 -- Writes, in the engine and in the ledger: FF51 to FF55 act alike on both, nothing else on either. Assumes nothing.
-use Prim.Native.Nat.{ℕ, _+_, _-_, _*_, _/_, _%_, _<_, _≤_}
+use Prim.Native.Nat.{ℕ, _+_, _*_, _%_, _<_}
 use native.Mathlib.Omega.{arith}
 use mathlib.Core.Path.{_≡_, refl, sym, ap, subst, _∙_}
 use mathlib.Core.Bool.{Bool, true, false, cond, _&&_, false≢true}
 use lib.Dec.{eqb}
 use borrow.Author.Tests.{eqb-true}
 use Rattle.console.specs.declared.Cgb.{Cgb}
-use Rattle.hdma.specs.Hdma5.{hdma5Written, lengthOf}
+use Rattle.hdma.specs.Hdma5.{lengthOf}
 use Rattle.hdma.specs.Pointers.{withHigh, withLow}
 use Rattle.hdma.proofs.Written as hdma
-use Rattle.registers.specs.Map.{Register, KEY0, KEY1, VBK, HDMA1, HDMA2, HDMA3, HDMA4, HDMA5, SVBK, FF72, FF73, FF74, FF75}
+use Rattle.registers.specs.Map.{KEY0, KEY1, VBK, HDMA1, HDMA2, HDMA3, HDMA4, HDMA5, SVBK, FF72, FF73, FF74, FF75}
 use Rattle.registers.specs.Map.{Place, workRam, bankedRam, extraOam, register, unmapped, placeOf, within, isMapped, locks, locksAt}
 use Rattle.registers.specs.Write.{withSource, withDest, stateAt, storedOf, mapWriteOf}
 use Rattle.registers.specs.declared.MapWritten.{MapWritten}
@@ -18,7 +18,7 @@ use Rattle.ledger.specs.LedgerInput.{Configuration}
 use Rattle.ledger.specs.Ledger.{Ledger, highByte, lowByte, withPointers, afterWrite}
 use Rattle.ledger.specs.Ledger.{Followed, source-high, source-low, dest-high, dest-low, transfer-length, elsewhere, followed}
 use Rattle.ledger.specs.Demand3.{Balanced}
-use Rattle.ledger.proofs.Core.{Core, under, coreOf, quota}
+use Rattle.ledger.proofs.Core.{Core, coreOf, quota}
 use Rattle.ledger.proofs.PairsMatch.{Match}
 
 -- which of the ledger's registers a place of the engine's map is

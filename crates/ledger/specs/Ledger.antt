@@ -1,7 +1,7 @@
 -- The ledger (document 01, section 5), in its own words: nothing here is taken from the engine.
 use Prim.Native.Nat.{ℕ, _+_, _-_, _*_, _%_}
 use mathlib.Core.Path.{_≡_}
-use mathlib.Core.Bool.{Bool, true, false, cond, _||_}
+use mathlib.Core.Bool.{Bool, false, cond, _||_}
 use mathlib.Core.List.{List, [], _∷_}
 use lib.Dec.{eqb}
 use Rattle.transfer.specs.declared.pair.BytePair.{BytePair}

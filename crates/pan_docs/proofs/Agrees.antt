@@ -2,18 +2,20 @@
 use Prim.Native.Nat.{ℕ, _+_, _-_, _*_, _/_, _%_, _<_, _≤_}
 use native.Mathlib.Omega.{arith}
 use mathlib.Core.Path.{_≡_, refl, ap, _∙_}
-use mathlib.Core.Bool.{Bool, true, false, cond, not, and-false}
+use mathlib.Core.Bool.{Bool, true, false, not, and-false}
 use lib.Dec.{ltb}
-use mathlib.Core.List.{List}
+use mathlib.Core.List.{List, [], _∷_}
 use lib.ListN as list
-use borrow.Author.Tests.{lt-ltb}
+use borrow.Author.Tests.{lt-ltb, not-false}
 use Rattle.console.specs.Modes.{isHBlank}
 use Rattle.console.specs.PowerOn.{powerOnOf, dmaAtRest}
 use Rattle.console.specs.Reached.{unreached, Reached}
 use Rattle.console.specs.declared.Cgb.{Cgb}
 use Rattle.console.specs.declared.vram_dma.TransferMode.the-variants as mode
 use Rattle.console.specs.Set.{withFf72, withFf73, withFf74, withFf75, withSvbk}
+use Rattle.console.specs.Refusals.{Reason, _⇒_}
 use Rattle.console.proofs.Reached.{reached, passes}
+use Rattle.console.proofs.Refusals.{none-holds}
 use Rattle.hdma.specs.Hdma5.{hdma5Written, armedOf, cancelledOf, startedOf, statusByte, visible}
 use Rattle.transfer.specs.Questions.{writeAddress, seizesBus}
 use Rattle.registers.specs.Map.{placeOf, isMapped, bankedRam, locksAt}
@@ -26,7 +28,10 @@ use Rattle.bus_calls.specs.Access.{readOf, writeOf, accessRefusal}
 use Rattle.engine.specs.Fall.{fallCallOf, fallRefusal, fallenState}
 use Rattle.engine.specs.Speed.{defers, switchRefusal, switchCallOf}
 use Rattle.fall_edge.specs.View.{viewOf}
-use Rattle.fall_edge.specs.Stages.{observedArb, observedOf, judgedBlock, ungrantedArb, probationOf, droppedBlock, haltLatchArb, haltLatchOf, agedArb, pendedArb, grants, grantedArb, gatedOf, refilledOf, blindsArb, blindsOf, commitBlock, commitArb, commitOf, tenureArb, tenureOf, pendArb, pendOf, readyBlock, readinessOf, seizedBlock, seizureOf}
+use Rattle.fall_edge.specs.Stages.{observedArb, observedOf, judgedBlock, ungrantedArb, probationOf, droppedBlock, haltLatchArb}
+use Rattle.fall_edge.specs.Stages.{haltLatchOf, agedArb, pendedArb, grants, grantedArb, gatedOf, refilledOf, blindsArb, blindsOf}
+use Rattle.fall_edge.specs.Stages.{commitBlock, commitArb, commitOf, tenureArb, tenureOf, pendArb, pendOf, readyBlock, readinessOf}
+use Rattle.fall_edge.specs.Stages.{seizedBlock, seizureOf}
 use Rattle.fall_edge.specs.Fall as stages
 use Rattle.fall_edge.specs.Fall.{fallOf, ranOf, decidedOf, servedOf}
 use Rattle.transfer.specs.Pair.{movingOf}
@@ -35,7 +40,7 @@ use Rattle.speed_switch.specs.declared.switch.SwitchInput.{SwitchInput}
 use Rattle.answers.specs.declared.ByteAnswer.the-variants.{Byte}
 use Rattle.bus_calls.proofs.Accepted.{read-accepted, write-unlocked}
 use Rattle.pan_docs.specs.PanDocs as pan
-use Rattle.pan_docs.specs.Agreement.{CgbMode, Whole, after, Reads, Agreement, Difference}
+use Rattle.pan_docs.specs.Agreement.{CgbMode, Whole, stateAfterWrite, Reads, Agreement, Difference}
 use Rattle.pan_docs.proofs.Bits as bits
 
 abbrev input : ℕ → Bool → WriteInput
@@ -43,7 +48,7 @@ input v lcd = record { value = v; «lcd_on» = lcd }
 
 module _ (s : Cgb) (m : CgbMode s) where
   -- in CGB mode an accepted write leaves what the map says
-  written : (a v : ℕ) (lcd : Bool) → isMapped (placeOf a) ≡ true → after a v lcd s ≡ stateAt s (input v lcd) (placeOf a)
+  written : (a v : ℕ) (lcd : Bool) → isMapped (placeOf a) ≡ true → stateAfterWrite a v lcd s ≡ stateAt s (input v lcd) (placeOf a)
   written a v lcd mapped = write-unlocked s (m .reached) a mapped (input v lcd) (m .unlocked)
 
   key1-reads : Reads s 0xFF4D (pan.key1 (s .«double_speed») (s .«key1_armed»))
@@ -53,11 +58,11 @@ module _ (s : Cgb) (m : CgbMode s) where
 
   key1-arms :
       (v : ℕ) (lcd : Bool) →
-      (pan.bitOf (after 0xFF4D v lcd s .«key1_armed») ≡ pan.bit 0 v) × (after 0xFF4D v lcd s .«double_speed» ≡ s .«double_speed»)
+      (pan.flagBit (stateAfterWrite 0xFF4D v lcd s .«key1_armed») ≡ pan.bitAt 0 v) × (stateAfterWrite 0xFF4D v lcd s .«double_speed» ≡ s .«double_speed»)
   unfolding placeOf
   key1-arms v lcd = rw (written 0xFF4D v lcd refl) (bits.flag v, refl)
 
-  vbk-selects : (v : ℕ) (lcd : Bool) → after 0xFF4F v lcd s .vram .selected ≡ pan.bit 0 v
+  vbk-selects : (v : ℕ) (lcd : Bool) → stateAfterWrite 0xFF4F v lcd s .vram .selected ≡ pan.bitAt 0 v
   unfolding placeOf
   vbk-selects v lcd = rw (written 0xFF4F v lcd refl) (omega arith)
 
@@ -75,11 +80,11 @@ module _ (s : Cgb) (m : CgbMode s) where
   unfolding unreached
   dest-mode x = record { reached = m .reached; unlocked = m .unlocked }
 
-  dma : (v : ℕ) (lcd : Bool) → after 0xFF55 v lcd s .«vram_dma» ≡ hdma5Written v lcd (s .«vram_dma»)
+  dma : (v : ℕ) (lcd : Bool) → stateAfterWrite 0xFF55 v lcd s .«vram_dma» ≡ hdma5Written v lcd (s .«vram_dma»)
   unfolding placeOf
   dma v lcd = rw (written 0xFF55 v lcd refl)
 
-  key0-locked : (v : ℕ) (lcd : Bool) → after 0xFF4C v lcd s ≡ s
+  key0-locked : (v : ℕ) (lcd : Bool) → stateAfterWrite 0xFF4C v lcd s ≡ s
   unfolding placeOf
   key0-locked v lcd = rw (written 0xFF4C v lcd refl)
 
@@ -93,20 +98,20 @@ module _ (s : Cgb) (m : CgbMode s) where
   )
 
   -- the port stores the length with every write, also where Pan Docs does not
-  length-set : (v : ℕ) (lcd : Bool) → after 0xFF55 v lcd s .«vram_dma» .cursor .remaining ≡ pan.length v
+  length-set : (v : ℕ) (lcd : Bool) → stateAfterWrite 0xFF55 v lcd s .«vram_dma» .cursor .remaining ≡ pan.transferLength v
   length-set v lcd = rw (dma v lcd, keeps v lcd (s .«vram_dma») .left) (bits.length v)
 
-  hblank-starts : (v : ℕ) (lcd : Bool) → v < 256 → pan.bit 7 v ≡ 1 → after 0xFF55 v lcd s .«vram_dma» .cursor .mode ≡ mode.HBlank
+  hblank-starts : (v : ℕ) (lcd : Bool) → v < 256 → pan.bitAt 7 v ≡ 1 → stateAfterWrite 0xFF55 v lcd s .«vram_dma» .cursor .mode ≡ mode.HBlank
   hblank-starts v lcd h e = rw (dma v lcd) (arms v lcd (s .«vram_dma») (bits.bit7-set v h e))
 
   general-starts :
-      (v : ℕ) (lcd : Bool) → v < 256 → pan.bit 7 v ≡ 0 → isHBlank (s .«vram_dma» .cursor .mode) ≡ false →
-      after 0xFF55 v lcd s .«vram_dma» .cursor .mode ≡ mode.General
+      (v : ℕ) (lcd : Bool) → v < 256 → pan.bitAt 7 v ≡ 0 → isHBlank (s .«vram_dma» .cursor .mode) ≡ false →
+      stateAfterWrite 0xFF55 v lcd s .«vram_dma» .cursor .mode ≡ mode.General
   general-starts v lcd h e none = rw (dma v lcd) (starts v lcd (s .«vram_dma») (bits.bit7-clear v h e) none)
 
   cancel-stops :
-      (v : ℕ) (lcd : Bool) → v < 256 → pan.bit 7 v ≡ 0 → s .«vram_dma» .cursor .mode ≡ mode.HBlank →
-      after 0xFF55 v lcd s .«vram_dma» .cursor .mode ≡ mode.Idle
+      (v : ℕ) (lcd : Bool) → v < 256 → pan.bitAt 7 v ≡ 0 → s .«vram_dma» .cursor .mode ≡ mode.HBlank →
+      stateAfterWrite 0xFF55 v lcd s .«vram_dma» .cursor .mode ≡ mode.Idle
   cancel-stops v lcd h e runs =
       rw (dma v lcd) (disarms v lcd (s .«vram_dma») (bits.bit7-clear v h e) (ap isHBlank runs))
 
@@ -114,19 +119,19 @@ module _ (s : Cgb) (m : CgbMode s) where
   unfolding placeOf
   status-reads wram whole = read-accepted s (m .reached) 0xFF55 refl wram whole
 
-  svbk-selects : (v : ℕ) (lcd : Bool) → port.wramBank (after 0xFF70 v lcd s .svbk) ≡ pan.wramBank v
+  svbk-selects : (v : ℕ) (lcd : Bool) → port.wramBank (stateAfterWrite 0xFF70 v lcd s .svbk) ≡ pan.workRamBank v
   unfolding placeOf
   svbk-selects v lcd = rw (written 0xFF70 v lcd refl)
 
 module _ (s : Cgb) (m : CgbMode s) (high low : ℕ) (lcd : Bool) (h : low < 256) where
-  source-set : after 0xFF52 low lcd (after 0xFF51 high lcd s) .«vram_dma» .cursor .source ≡ pan.source high low
+  source-set : stateAfterWrite 0xFF52 low lcd (stateAfterWrite 0xFF51 high lcd s) .«vram_dma» .cursor .source ≡ pan.source high low
   unfolding placeOf
   source-set =
       rw (written s m 0xFF51 high lcd refl, written (withSource _ s) (source-mode s m _) 0xFF52 low lcd refl)
       (bits.source high low (s .«vram_dma» .cursor .source) h)
 
   destination-set :
-      writeAddress (after 0xFF54 low lcd (after 0xFF53 high lcd s) .«vram_dma» .cursor) ≡ pan.destination high low
+      writeAddress (stateAfterWrite 0xFF54 low lcd (stateAfterWrite 0xFF53 high lcd s) .«vram_dma» .cursor) ≡ pan.destination high low
   unfolding placeOf
   destination-set =
       rw (written s m 0xFF53 high lcd refl, written (withDest _ s) (dest-mode s m _) 0xFF54 low lcd refl)
@@ -135,14 +140,14 @@ module _ (s : Cgb) (m : CgbMode s) (high low : ℕ) (lcd : Bool) (h : low < 256)
 module _ (s : Cgb) (m : CgbMode s) where
   running-reads :
       (remaining : ℕ) → s .«vram_dma» .cursor .mode ≡ mode.HBlank → s .«vram_dma» .arb .«granted_ahead» ≡ 0 →
-      s .«vram_dma» .cursor .remaining ≡ 16 * remaining → 0 < remaining → remaining ≤ 128 → Reads s 0xFF55 (pan.running remaining)
+      s .«vram_dma» .cursor .remaining ≡ 16 * remaining → 0 < remaining → remaining ≤ 128 → Reads s 0xFF55 (pan.hdma5Running remaining)
   unfolding statusByte
   running-reads n armed granted left some few wram whole =
       let seen : visible (s .«vram_dma») ≡ n = omega arith in
       status-reads s m wram whole ∙
       rw (seen, ap isHBlank armed, lt-ltb 0 n some) (ap Byte (bits.running n some few))
 
-  complete-reads : s .«vram_dma» .cursor .remaining ≡ 0 → Reads s 0xFF55 pan.complete
+  complete-reads : s .«vram_dma» .cursor .remaining ≡ 0 → Reads s 0xFF55 pan.hdma5Complete
   unfolding statusByte
   complete-reads none wram whole =
       let seen : visible (s .«vram_dma») ≡ 0 = omega arith in
@@ -158,7 +163,7 @@ module _ (s : Cgb) (m : CgbMode s) (v : ℕ) (lcd : Bool) where
 
   banked-reads :
       (i : ℕ) (wram : List ℕ) → Whole wram → i < 4096 →
-      readOf (after 0xFF70 v lcd s) wram (0xD000 + i) ≡ Byte (list.getD wram (pan.wramBank v * 4096 + i) 0)
+      readOf (stateAfterWrite 0xFF70 v lcd s) wram (0xD000 + i) ≡ Byte (list.getD wram (pan.workRamBank v * 4096 + i) 0)
   unfolding placeOf
   banked-reads i wram whole h =
       rw (written s m 0xFF70 v lcd refl)
@@ -166,20 +171,20 @@ module _ (s : Cgb) (m : CgbMode s) (v : ℕ) (lcd : Bool) where
       at-d (0xD000 + i) (omega arith) (omega arith) ∙ ap bankedRam (let e : 0xD000 + i - 0xD000 ≡ i = omega arith in e) in
       read-accepted (withSvbk (v % 8) s) banked-reached (0xD000 + i) (ap isMapped place) wram whole ∙ rw place)
 
-  ff72-reads : Reads (after 0xFF72 v lcd s) 0xFF72 v
+  ff72-reads : Reads (stateAfterWrite 0xFF72 v lcd s) 0xFF72 v
   unfolding placeOf unreached
   ff72-reads wram whole = rw (written s m 0xFF72 v lcd refl) (read-accepted (withFf72 v s) (m .reached) 0xFF72 refl wram whole)
 
-  ff73-reads : Reads (after 0xFF73 v lcd s) 0xFF73 v
+  ff73-reads : Reads (stateAfterWrite 0xFF73 v lcd s) 0xFF73 v
   unfolding placeOf unreached
   ff73-reads wram whole = rw (written s m 0xFF73 v lcd refl) (read-accepted (withFf73 v s) (m .reached) 0xFF73 refl wram whole)
 
-  ff74-reads : Reads (after 0xFF74 v lcd s) 0xFF74 v
+  ff74-reads : Reads (stateAfterWrite 0xFF74 v lcd s) 0xFF74 v
   unfolding placeOf unreached
   ff74-reads wram whole =
       rw (written s m 0xFF74 v lcd refl) (read-accepted (withFf74 v s) (m .reached) 0xFF74 refl wram whole ∙ rw (m .unlocked))
 
-  ff75-reads : Reads (after 0xFF75 v lcd s) 0xFF75 (pan.ff75 v)
+  ff75-reads : Reads (stateAfterWrite 0xFF75 v lcd s) 0xFF75 (pan.ff75 v)
   unfolding placeOf unreached
   ff75-reads wram whole =
       rw (written s m 0xFF75 v lcd refl)
@@ -196,18 +201,19 @@ module _ (s : Cgb) (i : SwitchInput) where
   unfolding switchCallOf switchedOf
   switch-flips accepted = (rw accepted, rw accepted)
 
-  -- the fifth test of a switch fails where it is accepted
+  -- where a switch is accepted none of its reasons to decline holds: the fifth is that it is not armed
   switch-armed : switchRefusal s i ≡ 0 → s .«key1_armed» ≡ true
   unfolding switchRefusal
-  switch-armed accepted = fifth (unreached s) (ltb 4 (i .«dot_phase»)) (i .hold) (ltb 0 (s .«speed_switch_blackout»)) (s .«key1_armed») (defers s) accepted
+  switch-armed accepted = not-false (s .«key1_armed») (none-holds reasons refl accepted .1 .1 .1 .1 .0)
     where
-      fifth : (a b c e k f : Bool) → _≡_ {A = ℕ} (cond a 7 (cond b 3 (cond c 5 (cond e 11 (cond (not k) 12 (cond f 13 0)))))) 0 → k ≡ true
-      fifth a b c e true f h = refl
-      fifth true b c e false f h = absurd (omega arith)
-      fifth false true c e false f h = absurd (omega arith)
-      fifth false false true e false f h = absurd (omega arith)
-      fifth false false false true false f h = absurd (omega arith)
-      fifth false false false false false f h = absurd (omega arith)
+      reasons : List Reason
+      reasons =
+          (unreached s ⇒ 7) ∷
+          (ltb 4 (i .«dot_phase») ⇒ 3) ∷
+          (i .hold ⇒ 5) ∷
+          (ltb 0 (s .«speed_switch_blackout») ⇒ 11) ∷
+          (not (s .«key1_armed») ⇒ 12) ∷
+          (defers s ⇒ 13) ∷ []
 
 pub agreement : Agreement
 agreement =
@@ -238,8 +244,33 @@ agreement =
       time = bits.time;
     }
 
+-- What the differences compute with, by what their calls do: to open one of these is to open all that it names
+opens-access : Unit {0}
+unfolding powerOnOf dmaAtRest unreached readOf writeOf accessRefusal placeOf mapWriteOf storedOf locksAt
+opens-access = tt
+
+opens-hdma5 : Unit {0}
+unfolding hdma5Written armedOf cancelledOf startedOf statusByte movingOf seizesBus
+opens-hdma5 = tt
+
+opens-fall-decides : Unit {0}
+unfolding fallCallOf fallRefusal fallenState fallOf viewOf ranOf decidedOf stages.startedOf servedOf
+opens-fall-decides = tt
+
+opens-fall-grants : Unit {0}
+unfolding observedArb observedOf judgedBlock ungrantedArb probationOf droppedBlock haltLatchArb haltLatchOf agedArb pendedArb grants grantedArb
+opens-fall-grants = tt
+
+opens-fall-commits : Unit {0}
+unfolding gatedOf refilledOf blindsArb blindsOf commitBlock commitArb commitOf tenureArb tenureOf pendArb pendOf readyBlock readinessOf seizedBlock seizureOf
+opens-fall-commits = tt
+
+opens-switch : Unit {0}
+unfolding switchCallOf switchRefusal switchedOf blackoutOf defers
+opens-switch = tt
+
 pub difference : Difference
-unfolding readOf writeOf accessRefusal unreached placeOf mapWriteOf storedOf locksAt hdma5Written armedOf cancelledOf startedOf statusByte powerOnOf dmaAtRest fallCallOf fallRefusal fallenState fallOf viewOf ranOf decidedOf stages.startedOf servedOf observedArb observedOf judgedBlock ungrantedArb probationOf droppedBlock haltLatchArb haltLatchOf agedArb pendedArb grants grantedArb gatedOf refilledOf blindsArb blindsOf commitBlock commitArb commitOf tenureArb tenureOf pendArb pendOf readyBlock readinessOf seizedBlock seizureOf movingOf seizesBus switchCallOf switchRefusal switchedOf blackoutOf defers
+unfolding opens-access opens-hdma5 opens-fall-decides opens-fall-grants opens-fall-commits opens-switch
 difference =
     record {
       cancel-stores = (λ wram whole. rw whole, refl);

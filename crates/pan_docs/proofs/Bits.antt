@@ -16,11 +16,11 @@ key1 true false = refl
 key1 true true = refl
 
 -- bit 0, tested and put into a flag
-by-bit : (n : ℕ) (t : Bool) → n < 2 → eqb n 1 ≡ t → pan.bitOf t ≡ n
+by-bit : (n : ℕ) (t : Bool) → n < 2 → eqb n 1 ≡ t → pan.flagBit t ≡ n
 by-bit n true h e = let k : n ≡ 1 = eqb-true n 1 e in omega arith
 by-bit n false h e = let k : n ≡ 1 → ⊥ = eqb-false n 1 e in omega arith
 
-pub flag : (v : ℕ) → pan.bitOf (eqb (v % 2) 1) ≡ pan.bit 0 v
+pub flag : (v : ℕ) → pan.flagBit (eqb (v % 2) 1) ≡ pan.bitAt 0 v
 flag v = rw (by-bit (v % 2) (eqb (v % 2) 1) (omega arith) refl) (omega arith)
 
 pub vbk : (bank : ℕ) → bank ≤ 1 → 0xFE + bank % 2 ≡ pan.vbk bank
@@ -33,13 +33,13 @@ pub destination :
     (high low pointer : ℕ) → low < 256 → 0x8000 + withLow low (withHigh high pointer) % 8192 ≡ pan.destination high low
 destination high low pointer h = omega arith
 
-pub length : (v : ℕ) → (v % 128 + 1) * 16 ≡ pan.length v
+pub length : (v : ℕ) → (v % 128 + 1) * 16 ≡ pan.transferLength v
 length v = omega arith
 
-pub bit7-set : (v : ℕ) → v < 256 → pan.bit 7 v ≡ 1 → leb 128 v ≡ true
+pub bit7-set : (v : ℕ) → v < 256 → pan.bitAt 7 v ≡ 1 → leb 128 v ≡ true
 bit7-set v h e = le-leb 128 v (omega arith)
 
-pub bit7-clear : (v : ℕ) → v < 256 → pan.bit 7 v ≡ 0 → leb 128 v ≡ false
+pub bit7-clear : (v : ℕ) → v < 256 → pan.bitAt 7 v ≡ 0 → leb 128 v ≡ false
 bit7-clear v h e = lt-leb 128 v (omega arith)
 
 -- three bits, the highest first
@@ -68,5 +68,5 @@ pub time : (v : ℕ) → 8 * (v % 128 + 1) ≡ pan.mcycles v
 time v = refl
 
 -- FF55's low bits, where n blocks are visible
-pub running : (n : ℕ) → 0 < n → n ≤ 128 → (n % 128 + 127) % 128 ≡ pan.running n
+pub running : (n : ℕ) → 0 < n → n ≤ 128 → (n % 128 + 127) % 128 ≡ pan.hdma5Running n
 running n p q = omega arith

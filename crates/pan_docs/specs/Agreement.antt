@@ -33,8 +33,8 @@ abbrev pub Whole : List ℕ → Type 0
 Whole wram = list.length wram ≡ wramLength
 
 -- the state after a write of v, with the LCD on or off
-abbrev pub after : ℕ → ℕ → Bool → Cgb → Cgb
-after a v lcd s = writeOf s (record { value = v; «lcd_on» = lcd }) a wramLength .state
+abbrev pub stateAfterWrite : ℕ → ℕ → Bool → Cgb → Cgb
+stateAfterWrite a v lcd s = writeOf s (record { value = v; «lcd_on» = lcd }) a wramLength .state
 
 -- a read of an address gives a byte, whatever work RAM holds
 abbrev pub Reads : Cgb → ℕ → ℕ → Type 0
@@ -42,13 +42,13 @@ Reads s a v = (wram : List ℕ) → Whole wram → readOf s wram a ≡ Byte v
 
 pub record Agreement : Type 0 where
   -- KEY0 is locked
-  pub key0-locked : (s : Cgb) (v : ℕ) (lcd : Bool) → CgbMode s → after 0xFF4C v lcd s ≡ s
+  pub key0-locked : (s : Cgb) (v : ℕ) (lcd : Bool) → CgbMode s → stateAfterWrite 0xFF4C v lcd s ≡ s
   -- KEY1 reads the speed in bit 7 and the arming in bit 0
   pub key1-reads : (s : Cgb) → CgbMode s → Reads s 0xFF4D (pan.key1 (s .«double_speed») (s .«key1_armed»))
   -- bit 0 written to KEY1 arms the switch, and bit 7 is read-only
   pub key1-arms :
       (s : Cgb) (v : ℕ) (lcd : Bool) → CgbMode s →
-      (pan.bitOf (after 0xFF4D v lcd s .«key1_armed») ≡ pan.bit 0 v) × (after 0xFF4D v lcd s .«double_speed» ≡ s .«double_speed»)
+      (pan.flagBit (stateAfterWrite 0xFF4D v lcd s .«key1_armed») ≡ pan.bitAt 0 v) × (stateAfterWrite 0xFF4D v lcd s .«double_speed» ≡ s .«double_speed»)
   -- an accepted switch changes the speed, both directions alike, and bit 0 is then 0 again
   pub switch-flips :
       (s : Cgb) (i : SwitchInput) → switchRefusal s i ≡ 0 →
@@ -56,53 +56,53 @@ pub record Agreement : Type 0 where
   -- and it happens only with bit 0 set
   pub switch-armed : (s : Cgb) (i : SwitchInput) → switchRefusal s i ≡ 0 → s .«key1_armed» ≡ true
   -- VBK selects by bit 0, and reads it back
-  pub vbk-selects : (s : Cgb) (v : ℕ) (lcd : Bool) → CgbMode s → after 0xFF4F v lcd s .vram .selected ≡ pan.bit 0 v
+  pub vbk-selects : (s : Cgb) (v : ℕ) (lcd : Bool) → CgbMode s → stateAfterWrite 0xFF4F v lcd s .vram .selected ≡ pan.bitAt 0 v
   pub vbk-reads : (s : Cgb) → CgbMode s → Reads s 0xFF4F (pan.vbk (s .vram .selected))
   -- FF51 and FF52, in this order, set the source
   pub source-set :
       (s : Cgb) (high low : ℕ) (lcd : Bool) → CgbMode s → low < 256 →
-      after 0xFF52 low lcd (after 0xFF51 high lcd s) .«vram_dma» .cursor .source ≡ pan.source high low
+      stateAfterWrite 0xFF52 low lcd (stateAfterWrite 0xFF51 high lcd s) .«vram_dma» .cursor .source ≡ pan.source high low
   -- FF53 and FF54, in this order, set where the next byte lands
   pub destination-set :
       (s : Cgb) (high low : ℕ) (lcd : Bool) → CgbMode s → low < 256 →
-      writeAddress (after 0xFF54 low lcd (after 0xFF53 high lcd s) .«vram_dma» .cursor) ≡ pan.destination high low
+      writeAddress (stateAfterWrite 0xFF54 low lcd (stateAfterWrite 0xFF53 high lcd s) .«vram_dma» .cursor) ≡ pan.destination high low
   -- FF51 to FF54 are write-only
   pub pointers-hidden :
       (s : Cgb) → CgbMode s →
       Reads s 0xFF51 pan.writeOnly × Reads s 0xFF52 pan.writeOnly × Reads s 0xFF53 pan.writeOnly × Reads s 0xFF54 pan.writeOnly
   -- FF55 sets the length where it starts a transfer: always, but with bit 7 clear while an HBlank transfer runs
   pub length-set :
-      (s : Cgb) (v : ℕ) (lcd : Bool) → CgbMode s → (s .«vram_dma» .cursor .mode ≡ mode.HBlank → pan.bit 7 v ≡ 1) →
-      after 0xFF55 v lcd s .«vram_dma» .cursor .remaining ≡ pan.length v
+      (s : Cgb) (v : ℕ) (lcd : Bool) → CgbMode s → (s .«vram_dma» .cursor .mode ≡ mode.HBlank → pan.bitAt 7 v ≡ 1) →
+      stateAfterWrite 0xFF55 v lcd s .«vram_dma» .cursor .remaining ≡ pan.transferLength v
   -- bit 7 set starts an HBlank transfer; clear, where none runs, a General one
   pub hblank-starts :
-      (s : Cgb) (v : ℕ) (lcd : Bool) → CgbMode s → v < 256 → pan.bit 7 v ≡ 1 →
-      after 0xFF55 v lcd s .«vram_dma» .cursor .mode ≡ mode.HBlank
+      (s : Cgb) (v : ℕ) (lcd : Bool) → CgbMode s → v < 256 → pan.bitAt 7 v ≡ 1 →
+      stateAfterWrite 0xFF55 v lcd s .«vram_dma» .cursor .mode ≡ mode.HBlank
   pub general-starts :
-      (s : Cgb) (v : ℕ) (lcd : Bool) → CgbMode s → v < 256 → pan.bit 7 v ≡ 0 →
-      isHBlank (s .«vram_dma» .cursor .mode) ≡ false → after 0xFF55 v lcd s .«vram_dma» .cursor .mode ≡ mode.General
+      (s : Cgb) (v : ℕ) (lcd : Bool) → CgbMode s → v < 256 → pan.bitAt 7 v ≡ 0 →
+      isHBlank (s .«vram_dma» .cursor .mode) ≡ false → stateAfterWrite 0xFF55 v lcd s .«vram_dma» .cursor .mode ≡ mode.General
   -- bit 7 clear while one runs stops it (what FF55 then reads differs: `cancel-stores`)
   pub cancel-stops :
-      (s : Cgb) (v : ℕ) (lcd : Bool) → CgbMode s → v < 256 → pan.bit 7 v ≡ 0 →
-      s .«vram_dma» .cursor .mode ≡ mode.HBlank → after 0xFF55 v lcd s .«vram_dma» .cursor .mode ≡ mode.Idle
+      (s : Cgb) (v : ℕ) (lcd : Bool) → CgbMode s → v < 256 → pan.bitAt 7 v ≡ 0 →
+      s .«vram_dma» .cursor .mode ≡ mode.HBlank → stateAfterWrite 0xFF55 v lcd s .«vram_dma» .cursor .mode ≡ mode.Idle
   -- FF55 reads the blocks that remain − 1 while an HBlank transfer runs, with whole blocks left and none counted out ahead
   pub running-reads :
       (s : Cgb) (remaining : ℕ) → CgbMode s → s .«vram_dma» .cursor .mode ≡ mode.HBlank →
       s .«vram_dma» .arb .«granted_ahead» ≡ 0 → s .«vram_dma» .cursor .remaining ≡ 16 * remaining → 0 < remaining → remaining ≤ 128 →
-      Reads s 0xFF55 (pan.running remaining)
+      Reads s 0xFF55 (pan.hdma5Running remaining)
   -- and FF where nothing is left
-  pub complete-reads : (s : Cgb) → CgbMode s → s .«vram_dma» .cursor .remaining ≡ 0 → Reads s 0xFF55 pan.complete
+  pub complete-reads : (s : Cgb) → CgbMode s → s .«vram_dma» .cursor .remaining ≡ 0 → Reads s 0xFF55 pan.hdma5Complete
   -- SVBK selects the bank at D000 to DFFF
   pub svbk-selects :
-      (s : Cgb) (v : ℕ) (lcd : Bool) → CgbMode s → port.wramBank (after 0xFF70 v lcd s .svbk) ≡ pan.wramBank v
+      (s : Cgb) (v : ℕ) (lcd : Bool) → CgbMode s → port.wramBank (stateAfterWrite 0xFF70 v lcd s .svbk) ≡ pan.workRamBank v
   pub banked-reads :
       (s : Cgb) (v i : ℕ) (lcd : Bool) (wram : List ℕ) → CgbMode s → Whole wram → i < 4096 →
-      readOf (after 0xFF70 v lcd s) wram (0xD000 + i) ≡ Byte (list.getD wram (pan.wramBank v * 4096 + i) 0)
+      readOf (stateAfterWrite 0xFF70 v lcd s) wram (0xD000 + i) ≡ Byte (list.getD wram (pan.workRamBank v * 4096 + i) 0)
   -- FF72, FF73 and FF74 read what was written; FF75 its bits 4 to 6
-  pub ff72-reads : (s : Cgb) (v : ℕ) (lcd : Bool) → CgbMode s → Reads (after 0xFF72 v lcd s) 0xFF72 v
-  pub ff73-reads : (s : Cgb) (v : ℕ) (lcd : Bool) → CgbMode s → Reads (after 0xFF73 v lcd s) 0xFF73 v
-  pub ff74-reads : (s : Cgb) (v : ℕ) (lcd : Bool) → CgbMode s → Reads (after 0xFF74 v lcd s) 0xFF74 v
-  pub ff75-reads : (s : Cgb) (v : ℕ) (lcd : Bool) → CgbMode s → Reads (after 0xFF75 v lcd s) 0xFF75 (pan.ff75 v)
+  pub ff72-reads : (s : Cgb) (v : ℕ) (lcd : Bool) → CgbMode s → Reads (stateAfterWrite 0xFF72 v lcd s) 0xFF72 v
+  pub ff73-reads : (s : Cgb) (v : ℕ) (lcd : Bool) → CgbMode s → Reads (stateAfterWrite 0xFF73 v lcd s) 0xFF73 v
+  pub ff74-reads : (s : Cgb) (v : ℕ) (lcd : Bool) → CgbMode s → Reads (stateAfterWrite 0xFF74 v lcd s) 0xFF74 v
+  pub ff75-reads : (s : Cgb) (v : ℕ) (lcd : Bool) → CgbMode s → Reads (stateAfterWrite 0xFF75 v lcd s) 0xFF75 (pan.ff75 v)
   -- outside CGB mode FF74 is locked and reads FF
   pub ff74-locked : (s : Cgb) → unreached s ≡ false → s .«dmg_compat» ≡ true → Reads s 0xFF74 0xFF
   -- at single speed a block of a General transfer takes 8 M-cycles
@@ -112,8 +112,8 @@ pub record Agreement : Type 0 where
 abbrev pub mode0 : Bool → FallInput
 mode0 halted = record { mode = 0; halted = halted; «irq_latched» = false; stopped = false; «master_edge» = 0; «oam_owns_bus» = false }
 
-abbrev pub fallen : Bool → Cgb → Cgb
-fallen halted s = fallCallOf s (mode0 halted) .state
+abbrev pub stateAfterFall : Bool → Cgb → Cgb
+stateAfterFall halted s = fallCallOf s (mode0 halted) .state
 
 -- a switch attempt with no interrupt ready, held or not
 abbrev pub attempt : Bool → SwitchInput
@@ -123,31 +123,31 @@ attempt hold = record { hold = hold; «dot_phase» = 4; «interrupt_ready» = fa
 pub record Difference : Type 0 where
   -- a cancel stores the written length: 83 armed and cancelled by 00 reads 80, where Pan Docs has 83 (four blocks remained)
   pub cancel-stores :
-      Reads (after 0xFF55 0x00 true (after 0xFF55 0x83 true (powerOnOf false))) 0xFF55 0x80 × (pan.cancelled 4 ≡ 0x83)
+      Reads (stateAfterWrite 0xFF55 0x00 true (stateAfterWrite 0xFF55 0x83 true (powerOnOf false))) 0xFF55 0x80 × (pan.hdma5Cancelled 4 ≡ 0x83)
   -- the destination keeps all 16 bits: 2000h stays, which Pan Docs does not tell from 0000h
   pub destination-kept :
-      (after 0xFF53 0x20 true (powerOnOf false) .«vram_dma» .cursor .dest ≡ 0x2000) × (pan.destination 0x20 0x00 ≡ pan.destination 0x00 0x00)
+      (stateAfterWrite 0xFF53 0x20 true (powerOnOf false) .«vram_dma» .cursor .dest ≡ 0x2000) × (pan.destination 0x20 0x00 ≡ pan.destination 0x00 0x00)
   -- a block is counted out at its commit: armed with 80, two falls later FF, and no byte has moved; Pan Docs has 00
   pub counted-at-commit :
-      (fallen false (fallen false (after 0xFF55 0x80 true (powerOnOf false))) .«vram_dma» .cursor .remaining ≡ 16) ×
-      Reads (fallen false (fallen false (after 0xFF55 0x80 true (powerOnOf false)))) 0xFF55 0xFF ×
-      (pan.running 1 ≡ 0x00)
+      (stateAfterFall false (stateAfterFall false (stateAfterWrite 0xFF55 0x80 true (powerOnOf false))) .«vram_dma» .cursor .remaining ≡ 16) ×
+      Reads (stateAfterFall false (stateAfterFall false (stateAfterWrite 0xFF55 0x80 true (powerOnOf false)))) 0xFF55 0xFF ×
+      (pan.hdma5Running 1 ≡ 0x00)
   -- a General transfer under way is seen as bit 7 set over its length, where Pan Docs lets nobody look
-  pub general-seen : Reads (after 0xFF55 0x00 true (powerOnOf false)) 0xFF55 0x80
+  pub general-seen : Reads (stateAfterWrite 0xFF55 0x00 true (powerOnOf false)) 0xFF55 0x80
   -- the estimate is 8 M-cycles a block at either speed, where Pan Docs has 16 at double
   pub time-double : (estimateOf 0x00 ≡ 8) × (pan.mcyclesDouble 0x00 ≡ 16)
   -- an entry in a halt is counted out at once, where Pan Docs has the transfer pause
-  pub halt-counts : Reads (fallen true (after 0xFF55 0x80 true (powerOnOf false))) 0xFF55 0xFF × (pan.running 1 ≡ 0x00)
+  pub halt-counts : Reads (stateAfterFall true (stateAfterWrite 0xFF55 0x80 true (powerOnOf false))) 0xFF55 0xFF × (pan.hdma5Running 1 ≡ 0x00)
   -- a switch blacks out 131,077 master edges upward, where Pan Docs has the CPU stand still for 2,050 M-cycles
   pub switch-length :
-      (switchCallOf (after 0xFF4D 0x01 true (powerOnOf false)) (attempt false) .state .«speed_switch_blackout» ≡ 131077) ×
+      (switchCallOf (stateAfterWrite 0xFF4D 0x01 true (powerOnOf false)) (attempt false) .state .«speed_switch_blackout» ≡ 131077) ×
       (pan.switchMcycles ≡ 2050)
   -- a switch is declined under hold, where Pan Docs has a STOP with bit 0 set switch
-  pub switch-held : switchCallOf (after 0xFF4D 0x01 true (powerOnOf false)) (attempt true) .answer ≡ Refused 5
+  pub switch-held : switchCallOf (stateAfterWrite 0xFF4D 0x01 true (powerOnOf false)) (attempt true) .answer ≡ Refused 5
   -- FF4F is not locked under compat, where a locked register reads FF
   pub vbk-unlocked : Reads (powerOnOf true) 0xFF4F 0xFE
   -- FF70 reads back the written 0, and FF4C reads 00, of which Pan Docs says nothing
-  pub svbk-read-back : Reads (after 0xFF70 0x00 true (powerOnOf false)) 0xFF70 0xF8
+  pub svbk-read-back : Reads (stateAfterWrite 0xFF70 0x00 true (powerOnOf false)) 0xFF70 0xF8
   pub key0-reads : Reads (powerOnOf false) 0xFF4C 0x00
   -- FEA0 to FEFF are 24 bytes, address bits 3 and 4 ignored, where Pan Docs lets console revisions differ
-  pub extra-oam : Reads (after 0xFEA0 0x12 true (powerOnOf false)) 0xFEA8 0x12
+  pub extra-oam : Reads (stateAfterWrite 0xFEA0 0x12 true (powerOnOf false)) 0xFEA8 0x12

@@ -6,11 +6,11 @@ use mathlib.Core.List.{List, [], _∷_}
 use lib.Dec.{eqb}
 
 -- bit k of a value
-abbrev pub bit : ℕ → ℕ → ℕ
-bit k v = v / 2 ^ k % 2
+abbrev pub bitAt : ℕ → ℕ → ℕ
+bitAt k v = v / 2 ^ k % 2
 
-abbrev pub bitOf : Bool → ℕ
-bitOf b = cond b 1 0
+abbrev pub flagBit : Bool → ℕ
+flagBit b = cond b 1 0
 
 -- the value whose bits are listed, the highest first, after a value that stands above them
 abbrev pub bitsAfter : ℕ → List ℕ → ℕ
@@ -23,7 +23,7 @@ byte bs = bitsAfter 0 bs
 
 -- FF4D KEY1: bit 7 the current speed, bit 0 switch armed, the other bits read 1; bit 7 is read-only
 abbrev pub key1 : Bool → Bool → ℕ
-key1 double armed = byte (bitOf double ∷ 1 ∷ 1 ∷ 1 ∷ 1 ∷ 1 ∷ 1 ∷ bitOf armed ∷ [])
+key1 double armed = byte (flagBit double ∷ 1 ∷ 1 ∷ 1 ∷ 1 ∷ 1 ∷ 1 ∷ flagBit armed ∷ [])
 
 -- a speed switch: the CPU stands still for so many M-cycles
 abbrev pub switchMcycles : ℕ
@@ -49,28 +49,28 @@ destination high low = 0x8000 + (high * 256 + low) % 2 ^ 13 / 2 ^ 4 * 2 ^ 4
 abbrev pub blocks : ℕ → ℕ
 blocks v = v % 2 ^ 7 + 1
 
-abbrev pub length : ℕ → ℕ
-length v = 16 * blocks v
+abbrev pub transferLength : ℕ → ℕ
+transferLength v = 16 * blocks v
 
 -- FF55, read while an HBlank transfer runs: bit 7 clear, below it the blocks that remain − 1
-abbrev pub running : ℕ → ℕ
-running remaining = remaining - 1
+abbrev pub hdma5Running : ℕ → ℕ
+hdma5Running remaining = remaining - 1
 
 -- FF55, read once the transfer is complete
-abbrev pub complete : ℕ
-complete = 0xFF
+abbrev pub hdma5Complete : ℕ
+hdma5Complete = 0xFF
 
 -- FF55, read once an HBlank transfer was cancelled: bit 7 set, below it the blocks that remained − 1
-abbrev pub cancelled : ℕ → ℕ
-cancelled remained = 2 ^ 7 + (remained - 1)
+abbrev pub hdma5Cancelled : ℕ → ℕ
+hdma5Cancelled remained = 2 ^ 7 + (remained - 1)
 
 -- FF70 SVBK: bits 0 to 2 select the WRAM bank at D000 to DFFF; 0 selects bank 1
-abbrev pub wramBank : ℕ → ℕ
-wramBank v = cond (eqb (v % 2 ^ 3) 0) 1 (v % 2 ^ 3)
+abbrev pub workRamBank : ℕ → ℕ
+workRamBank v = cond (eqb (v % 2 ^ 3) 0) 1 (v % 2 ^ 3)
 
 -- FF75: bits 4 to 6 hold what was written, the other bits read 1
 abbrev pub ff75 : ℕ → ℕ
-ff75 v = byte (1 ∷ bit 6 v ∷ bit 5 v ∷ bit 4 v ∷ 1 ∷ 1 ∷ 1 ∷ 1 ∷ [])
+ff75 v = byte (1 ∷ bitAt 6 v ∷ bitAt 5 v ∷ bitAt 4 v ∷ 1 ∷ 1 ∷ 1 ∷ 1 ∷ [])
 
 -- a block takes 8 M-cycles at single speed
 abbrev pub mcycles : ℕ → ℕ
