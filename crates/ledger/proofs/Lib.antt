@@ -11,4 +11,3 @@ pub mod General
 pub mod AnswerValues
 pub mod OneRun
 pub mod Theorem
-pub mod Cases

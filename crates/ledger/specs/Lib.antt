@@ -4,4 +4,3 @@ pub mod Calls
 pub mod Code
 pub mod Demand3
 pub mod OneRun
-pub mod Cases

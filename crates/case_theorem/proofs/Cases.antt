@@ -39,11 +39,11 @@ use Rattle.engine.specs.Fall.{fallRefusal, fallenState, fallCallOf}
 use Rattle.answers.specs.Answers.{stateRefusal, byteAnswer}
 use Rattle.answers.specs.declared.ByteAnswer.the-variants as byte
 use Rattle.engine.specs.Speed.{defers, switchRefusal, switchCallOf, blackoutCallOf}
 use Rattle.ledger.specs.Ledger.{empty, followed, afterPair, afterPairs, afterCall}
 use Rattle.ledger.specs.Calls.{step, ledgerInput}
 use Rattle.ledger.proofs.Bools.{and-left, and-right}
-use Rattle.ledger.specs.Cases.{Progress, compatMode, start, afterOne, afterCalls, vramRun, run, ff55-is, to, falls, heldBeside, lengths}
-use Rattle.ledger.specs.Cases.{k1, K1, two-falls, K2, K3, K4, K5, k6, K6, K7, k8, Lent, first-lands, second-lands, K8, K10, Cases}
+use Rattle.case_theorem.specs.Cases.{Progress, compatMode, start, afterOne, afterCalls, vramRun, run, ff55-is, to, falls, heldBeside, lengths}
+use Rattle.case_theorem.specs.Cases.{k1, K1, two-falls, K2, K3, K4, K5, k6, K6, K7, k8, Lent, first-lands, second-lands, K8, K10, Cases}
 
 -- lists of addresses are compared number by number
 abbrev same : List (ℕ × ℕ) → List (ℕ × ℕ) → Bool
