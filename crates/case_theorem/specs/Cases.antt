@@ -33,11 +33,11 @@ pub record Progress : Type 0 where
   pub pairs : List BytePair
 
 -- power-on with and without compat
-abbrev pub compatMode : Configuration
-compatMode = record { compat = true }
+abbrev pub withCompat : Configuration
+withCompat = record { compat = true }
 
-abbrev pub cgbMode : Configuration
-cgbMode = record { compat = false }
+abbrev pub withoutCompat : Configuration
+withoutCompat = record { compat = false }
 
 unfoldable pub start : Configuration → Progress
 start k = record { engine = powerOnOf (k .compat); ledger = empty; pairs = [] }
@@ -58,7 +58,7 @@ afterCalls k w (c ∷ cs) = afterCalls k (afterOne k w c) cs
 
 -- from power-on without compat
 abbrev pub run : List Call → Progress
-run calls = afterCalls cgbMode (start cgbMode) calls
+run calls = afterCalls withoutCompat (start withoutCompat) calls
 
 -- VRAM after those calls, with these contents in the slices
 abbrev pub vramAt : Progress → Call → List ℕ → List ℕ → List ℕ → List ℕ
@@ -79,7 +79,7 @@ vramAt w (query q) cartridge wram vram = vram
 
 unfoldable pub vramRun : Progress → List Call → List ℕ → List ℕ → List ℕ → List ℕ
 vramRun w [] cartridge wram vram = vram
-vramRun w (c ∷ cs) cartridge wram vram = vramRun (afterOne cgbMode w c) cs cartridge wram (vramAt w c cartridge wram vram)
+vramRun w (c ∷ cs) cartridge wram vram = vramRun (afterOne withoutCompat w c) cs cartridge wram (vramAt w c cartridge wram vram)
 
 -- the first n bytes of the cartridge, at the start of VRAM
 abbrev pub copied : ℕ → List ℕ → List ℕ → List ℕ
@@ -145,7 +145,7 @@ pub record K1 (mode : ℕ) : Type 0 where
   pub reads : ff55-is 0xFF (k1 mode)
   pub counted : (k1 mode .ledger .pairs ≡ 16) × (k1 mode .ledger .left ≡ 0)
   -- with any memory contents
-  pub stored : (cartridge wram vram : List ℕ) → vramRun (start cgbMode) (k1-calls mode) cartridge wram vram ≡ copied 16 cartridge vram
+  pub stored : (cartridge wram vram : List ℕ) → vramRun (start withoutCompat) (k1-calls mode) cartridge wram vram ≡ copied 16 cartridge vram
 
 -- "FF55=80 and falls in modes 3, 0, 0, 0, 0: FF55 is 00 after the second, FF after the third; bus after the fourth takes the
 -- set-up cell, after the fifth two pairs"
@@ -191,7 +191,7 @@ abbrev pub k6-armed : Progress
 k6-armed = run (five-falls 0x81 tt ++ (heldBus ∷ to 0xFF4D 0x01 tt ∷ []))
 
 abbrev pub k6 : Progress
-k6 = afterCalls cgbMode k6-armed (switch-speed (unheld 4) ∷ falls 0 ∷ heldBus ∷ [])
+k6 = afterCalls withoutCompat k6-armed (switch-speed (unheld 4) ∷ falls 0 ∷ heldBus ∷ [])
 
 pub record K6 : Type 0 where
   pub cut : switchCallOf (k6-armed .engine) (unheld 4) .answer ≡ switched.Cut
@@ -205,10 +205,10 @@ abbrev pub k7-up : Progress
 k7-up = run (to 0xFF4D 0x01 tt ∷ switch-speed (unheld 3) ∷ [])
 
 abbrev pub k7-down : Progress
-k7-down = afterCalls cgbMode k7-up (blackout 131077 ∷ to 0xFF4D 0x01 tt ∷ switch-speed (unheld 3) ∷ [])
+k7-down = afterCalls withoutCompat k7-up (blackout 131077 ∷ to 0xFF4D 0x01 tt ∷ switch-speed (unheld 3) ∷ [])
 
 abbrev pub k7-again : Progress
-k7-again = afterCalls cgbMode k7-down (blackout 262144 ∷ to 0xFF4D 0x01 tt ∷ switch-speed (unheld 3) ∷ [])
+k7-again = afterCalls withoutCompat k7-down (blackout 262144 ∷ to 0xFF4D 0x01 tt ∷ switch-speed (unheld 3) ∷ [])
 
 pub record K7 : Type 0 where
   pub up : k7-up .engine .«speed_switch_blackout» ≡ 131077
@@ -229,7 +229,7 @@ abbrev pub besideOam : ArbitrationInput
 besideOam = record { hold = true; suspended = false; «oam_transferring» = true }
 
 abbrev pub k8 : ℕ → Progress
-k8 edge = afterCalls cgbMode (k8-ready edge) (arbitrate besideOam ∷ [])
+k8 edge = afterCalls withoutCompat (k8-ready edge) (arbitrate besideOam ∷ [])
 
 -- memory of any contents, lent to a bus call
 pub record Lent : Type 0 where
@@ -255,7 +255,7 @@ second-lands m = set (m .oam) (0xFE31 - 0xFE00) (getD (m .cartridge) 0x1231 0)
 pub record K8 : Type 0 where
   pub block-edge : k8 100 .engine .«vram_dma» .block .«start_edge» ≡ 100
   pub contended : arbitrationCallOf (k8-ready 100 .engine) besideOam .answer ≡ arbitration.Contended
-  pub moved : addresses (afterCalls cgbMode (k8 100) (bus-call (heldBeside 98) lengths ∷ []) .pairs) ≡ upward 2 0x1230 0x8000
+  pub moved : addresses (afterCalls withoutCompat (k8 100) (bus-call (heldBeside 98) lengths ∷ []) .pairs) ≡ upward 2 0x1230 0x8000
   pub at-98 : (m : Lent) → k8-oam 100 98 m ≡ second-lands m
   pub at-92 : (m : Lent) → k8-oam 100 92 m ≡ second-lands m
   pub at-96 : (m : Lent) → k8-oam 100 96 m ≡ first-lands m
@@ -266,7 +266,7 @@ pub record K8 : Type 0 where
 
 -- "compat: FF55=00 leaves FF"
 pub record K10 : Type 0 where
-  pub reads : ff55-is 0xFF (afterCalls compatMode (start compatMode) (to 0xFF55 0x00 tt ∷ []))
+  pub reads : ff55-is 0xFF (afterCalls withCompat (start withCompat) (to 0xFF55 0x00 tt ∷ []))
 
 pub record Cases : Type 0 where
   pub case1 : (mode : ℕ) → mode < 4 → K1 mode
