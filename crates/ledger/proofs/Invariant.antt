@@ -4,7 +4,7 @@ use Prim.Native.Nat.{ℕ, _+_, _<_, _≤_}
 use native.Mathlib.Omega.{arith}
 use mathlib.Core.Path.{_≡_, refl, sym, ap, subst, _∙_}
 use mathlib.Core.Bool.{Bool, true, false, cond, not, _&&_, _||_, false≢true}
-use mathlib.Core.List.{List}
+use mathlib.Core.List.{List, []}
 use lib.Dec.{eqb, ltb, lit<}
 use lib.ListN.{length}
 use Rattle.console.specs.Reached.{unreached}
@@ -30,7 +30,7 @@ use Rattle.engine.specs.Fall.{fallen, fallenState}
 use Rattle.ledger.specs.LedgerInput.{Configuration, LedgerInput, a-write, a-fall, a-switch, a-drain, another, Reply, accepts, isFall, isDrain}
 use Rattle.ledger.specs.Ledger.{Ledger, afterCut, effect, afterPairs, afterCall}
 use Rattle.ledger.specs.Calls
-use Rattle.ledger.specs.Calls.{Call, Outcome, step, ledgerInput}
+use Rattle.ledger.specs.Calls.{Call, Outcome, handing, step, ledgerInput}
 use Rattle.ledger.specs.Demand3.{NextPairs, no-more, Balanced}
 use Rattle.ledger.proofs.Core.{Core, under, coreOf, quota, fall-core, lcd-core, lcd-quota, blackout-core, blackout-quota, wake-core}
 use Rattle.ledger.proofs.Core.{wake-quota}
@@ -86,14 +86,20 @@ upward-cursor true d = refl
 upward-cursor false d = refl
 
 module _ (k : Configuration) (s : Cgb) (l : Ledger) (n : ℕ) (i : Invariant k s l n) where
-  -- a refusal keeps all
-  declined-laws : (c : LedgerInput) (number : ℕ) → eqb number 0 ≡ false → CallLaws k l n c (declined number s)
+  -- a refusal keeps all: "no refused call changes it"
+  refused-ledger : (c : LedgerInput) (number : ℕ) → eqb number 0 ≡ false → afterCall k c (handing number []) l ≡ l
   unfolding afterCall
+  refused-ledger c number e = ap (λ (b : Bool). cond b (afterPairs [] (effect k c (handing number []) l)) l) e
+
+  declined-laws : (c : LedgerInput) (number : ℕ) → eqb number 0 ≡ false → CallLaws k l n c (declined number s)
   declined-laws c number e =
       record {
         next = λ t. no-fall (sym e ∙ t);
         refill = λ f t. no-fall (sym e ∙ t);
-        holds = record { agree = rw e (i .agree); budget = rw e (spent (isDrain c)) };
+        holds = record {
+          agree = subst (Match k (coreOf s)) (sym (refused-ledger c number e)) (i .agree);
+          budget = rw e (spent (isDrain c));
+        };
       }
     where
       spent : (b : Bool) → n + cond b 0 0 + quota s ≤ 2
