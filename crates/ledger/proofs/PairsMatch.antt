@@ -169,7 +169,7 @@ taken-match (suc n) k locked d l m =
         (a : NextAnswer) → PairsMatch k locked l (d .cursor .quota) (answer.pairOf a) (nextByteOf d .dma) →
         (Match k (under locked (nextByteOf d .dma .cursor)) (afterPair l) →
         PairsMatch k locked (afterPair l) (nextByteOf d .dma .cursor .quota) (takenOf n (nextByteOf d .dma) .pairs) (takenOf n (nextByteOf d .dma) .dma)) →
-        PairsMatch k locked l (d .cursor .quota) (after d a (takenOf n (nextByteOf d .dma)) .pairs) (after d a (takenOf n (nextByteOf d .dma)) .dma)
+        (let t = after d a (takenOf n (nextByteOf d .dma)) in PairsMatch k locked l (d .cursor .quota) (t .pairs) (t .dma))
     by (next.Pair p) one rest =
         let more = rest (one .agree) in
         let q1 = one .quota in

@@ -305,7 +305,9 @@ unfolding takenOf
 taken zero d f = f
 taken (suc n) d f = by (nextByteOf d .answer) (taken n (nextByteOf d .dma) (next-fits d f))
   where
-    by : (a : NextAnswer) → EngineFits (takenOf n (nextByteOf d .dma) .dma) → EngineFits (after d a (takenOf n (nextByteOf d .dma)) .dma)
+    by :
+        (a : NextAnswer) → EngineFits (takenOf n (nextByteOf d .dma) .dma) →
+        EngineFits (after d a (takenOf n (nextByteOf d .dma)) .dma)
     by (next.Pair p) more = more
     by next.None more = f
 
