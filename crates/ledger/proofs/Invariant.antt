@@ -36,7 +36,7 @@ use Rattle.ledger.proofs.Core.{Core, under, coreOf, quota, fall-core, l
 use Rattle.ledger.proofs.Core.{wake-quota}
 use Rattle.ledger.proofs.AcceptedOrDeclined.{quiet, giving, accepting, declined, pairOf, cuts, reasonsOf, numberOf, givenBy, either-way}
 use Rattle.ledger.proofs.PairsMatch.{Match, PairsMatch, next-match, drain-match, bus-match}
-use Rattle.ledger.proofs.Writes.{write-match, write-quota}
+use Rattle.ledger.proofs.Writes.{write-match}
 
 -- the pairs since the last accepted fall, after one more call
 abbrev pub since : ℕ → LedgerInput → Reply → ℕ
@@ -134,13 +134,11 @@ module _ (k : Configuration) (s : Cgb) (l : Ledger) (n : ℕ) (i : Invariant k s
   write-laws : (a : ℕ) (w : WriteInput) → w .value < 256 → CallLaws k l n (a-write a (w .value)) (accepting (quiet (mapWriteOf s w a .state)))
   unfolding afterCall afterPairs
   write-laws a w byte =
+      let both = write-match k s w byte l (i .agree) a in
       record {
         next = λ e. no-more;
         refill = λ f e. no-fall f;
-        holds = record {
-          agree = write-match k s w byte l (i .agree) a;
-          budget = omega (arith, write-quota k s w byte l (i .agree) a, i .budget);
-        };
+        holds = record { agree = both .agree; budget = omega (arith, both .quota, i .budget) };
       }
 
   -- a fall hands out nothing, and refills the quota where nothing refused it

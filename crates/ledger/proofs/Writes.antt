@@ -85,46 +85,6 @@ same-map a = by (eqb a 0xFF51) (eqb a 0xFF52) (eqb a 0xFF53) (eqb a 0xFF54) (eqb
         (both-ways (eqb a 0xFF74) _ _ refl (both-ways (eqb a 0xFF75) _ _ refl refl)))))))))))))))))
         ∙ rw (e1, e2, e3, e4, e5)
 
-module _ (s : Cgb) (w : WriteInput) where
-  -- no place but FF51 to FF55 touches the core
-  core-kept : (p : Place) → follows p ≡ elsewhere → coreOf (stateAt s w p) ≡ coreOf s
-  core-kept (workRam i) h = refl
-  core-kept (bankedRam i) h = refl
-  core-kept (extraOam i) h = refl
-  core-kept unmapped h = refl
-  core-kept (register KEY0) h = refl
-  core-kept (register KEY1) h = refl
-  core-kept (register VBK) h = refl
-  core-kept (register HDMA1) h = cc
-  core-kept (register HDMA2) h = cc
-  core-kept (register HDMA3) h = cc
-  core-kept (register HDMA4) h = cc
-  core-kept (register HDMA5) h = cc
-  core-kept (register SVBK) h = refl
-  core-kept (register FF72) h = refl
-  core-kept (register FF73) h = refl
-  core-kept (register FF74) h = refl
-  core-kept (register FF75) h = refl
-
-  quota-kept : (p : Place) → quota (stateAt s w p) ≡ quota s
-  quota-kept (workRam i) = refl
-  quota-kept (bankedRam i) = refl
-  quota-kept (extraOam i) = refl
-  quota-kept unmapped = refl
-  quota-kept (register KEY0) = refl
-  quota-kept (register KEY1) = refl
-  quota-kept (register VBK) = refl
-  quota-kept (register HDMA1) = refl
-  quota-kept (register HDMA2) = refl
-  quota-kept (register HDMA3) = refl
-  quota-kept (register HDMA4) = refl
-  quota-kept (register HDMA5) = hdma.keeps (w .value) (w .«lcd_on») (s .«vram_dma») .quota
-  quota-kept (register SVBK) = refl
-  quota-kept (register FF72) = refl
-  quota-kept (register FF73) = refl
-  quota-kept (register FF74) = refl
-  quota-kept (register FF75) = refl
-
 -- the two ways of writing a byte of a pointer, and of a length
 same-high : (v p : ℕ) → withHigh v p ≡ highByte v p
 same-high v p = omega arith
@@ -141,48 +101,97 @@ high-bound v p h = omega arith
 low-bound : (v p : ℕ) → v < 256 → p < 65536 → lowByte v p < 65536
 low-bound v p h k = omega arith
 
+-- a write leaves t, which the ledger l speaks of, and the quota as it was
+pub record WriteMatch (k : Configuration) (s t : Cgb) (l : Ledger) : Type 0 where
+  pub agree : Match k (coreOf t) l
+  pub quota : quota t ≡ quota s
+
+-- what compat leaves unlocked the ledger does not follow
+unlocked-elsewhere : (p : Place) → locks p ≡ false → follows p ≡ elsewhere
+unlocked-elsewhere (workRam i) h = refl
+unlocked-elsewhere (bankedRam i) h = refl
+unlocked-elsewhere (extraOam i) h = refl
+unlocked-elsewhere unmapped h = refl
+unlocked-elsewhere (register KEY0) h = refl
+unlocked-elsewhere (register KEY1) h = refl
+unlocked-elsewhere (register VBK) h = refl
+unlocked-elsewhere (register HDMA1) h = absurd (false≢true (sym h))
+unlocked-elsewhere (register HDMA2) h = absurd (false≢true (sym h))
+unlocked-elsewhere (register HDMA3) h = absurd (false≢true (sym h))
+unlocked-elsewhere (register HDMA4) h = absurd (false≢true (sym h))
+unlocked-elsewhere (register HDMA5) h = absurd (false≢true (sym h))
+unlocked-elsewhere (register SVBK) h = refl
+unlocked-elsewhere (register FF72) h = refl
+unlocked-elsewhere (register FF73) h = refl
+unlocked-elsewhere (register FF74) h = refl
+unlocked-elsewhere (register FF75) h = refl
+
 module _ (k : Configuration) (s : Cgb) (w : WriteInput) (byte : w .value < 256) (l : Ledger) (m : Match k (coreOf s) l) where
-  kept-match : (t : Cgb) → coreOf t ≡ coreOf s → Match k (coreOf t) l
-  kept-match t e = subst (λ (c : Core). Match k c l) (sym e) m
+  kept : (t : Cgb) → coreOf t ≡ coreOf s → quota t ≡ quota s → WriteMatch k s t l
+  kept t e q = record { agree = subst (λ (c : Core). Match k c l) (sym e) m; quota = q }
 
   -- a pointer written on both sides
-  with-source : (x y : ℕ) → x ≡ y → y < 65536 → Match k (coreOf (withSource x s)) (withPointers y (l .dest) l)
+  with-source : (x y : ℕ) → x ≡ y → y < 65536 → WriteMatch k s (withSource x s) (withPointers y (l .dest) l)
   unfolding Balanced
   with-source x y same bound =
       record {
-        locked = m .locked;
-        source = same;
-        dest = m .dest;
-        left = m .left;
-        free = m .free;
-        source-bound = bound;
-        dest-bound = m .dest-bound;
-        balance = m .balance;
+        agree = record {
+          locked = m .locked;
+          source = same;
+          dest = m .dest;
+          left = m .left;
+          free = m .free;
+          source-bound = bound;
+          dest-bound = m .dest-bound;
+          balance = m .balance;
+        };
+        quota = refl;
       }
 
-  with-dest : (x y : ℕ) → x ≡ y → y < 65536 → Match k (coreOf (withDest x s)) (withPointers (l .source) y l)
+  with-dest : (x y : ℕ) → x ≡ y → y < 65536 → WriteMatch k s (withDest x s) (withPointers (l .source) y l)
   unfolding Balanced
   with-dest x y same bound =
       record {
-        locked = m .locked;
-        source = m .source;
-        dest = same;
-        left = m .left;
-        free = m .free;
-        source-bound = m .source-bound;
-        dest-bound = bound;
-        balance = m .balance;
+        agree = record {
+          locked = m .locked;
+          source = m .source;
+          dest = same;
+          left = m .left;
+          free = m .free;
+          source-bound = m .source-bound;
+          dest-bound = bound;
+          balance = m .balance;
+        };
+        quota = refl;
       }
 
-  written-match : (p : Place) → Match k (coreOf (stateAt s w p)) (afterWrite (follows p) (w .value) l)
+  length-written :
+      WriteMatch k s (stateAt s w (register HDMA5)) (afterWrite transfer-length (w .value) l)
   unfolding Balanced
-  written-match (workRam i) = m
-  written-match (bankedRam i) = m
-  written-match (extraOam i) = kept-match (stateAt s w (extraOam i)) refl
-  written-match unmapped = m
-  written-match (register KEY0) = m
-  written-match (register KEY1) = kept-match (stateAt s w (register KEY1)) refl
-  written-match (register VBK) = kept-match (stateAt s w (register VBK)) refl
+  length-written =
+      let h = hdma.keeps (w .value) (w .«lcd_on») (s .«vram_dma») in
+      record {
+        agree = record {
+          locked = m .locked;
+          source = h .source ∙ m .source;
+          dest = h .dest ∙ m .dest;
+          left = h .left ∙ same-length (w .value);
+          free = h .escape ∙ m .free;
+          source-bound = m .source-bound;
+          dest-bound = m .dest-bound;
+          balance = omega (arith, m .balance);
+        };
+        quota = h .quota;
+      }
+
+  written-match : (p : Place) → WriteMatch k s (stateAt s w p) (afterWrite (follows p) (w .value) l)
+  written-match (workRam i) = kept s refl refl
+  written-match (bankedRam i) = kept s refl refl
+  written-match (extraOam i) = kept (stateAt s w (extraOam i)) refl refl
+  written-match unmapped = kept s refl refl
+  written-match (register KEY0) = kept s refl refl
+  written-match (register KEY1) = kept (stateAt s w (register KEY1)) refl refl
+  written-match (register VBK) = kept (stateAt s w (register VBK)) refl refl
   written-match (register HDMA1) =
       with-source _ _ (ap (withHigh (w .value)) (m .source) ∙ same-high (w .value) (l .source)) (high-bound (w .value) (l .source) byte)
   written-match (register HDMA2) =
@@ -193,64 +202,26 @@ module _ (k : Configuration) (s : Cgb) (w : WriteInput) (byte : w .value < 256) 
   written-match (register HDMA4) =
       with-dest _ _ (ap (withLow (w .value)) (m .dest) ∙ same-low (w .value) (l .dest))
       (low-bound (w .value) (l .dest) byte (m .dest-bound))
-  written-match (register HDMA5) =
-      let h = hdma.keeps (w .value) (w .«lcd_on») (s .«vram_dma») in
-      record {
-        locked = m .locked;
-        source = h .source ∙ m .source;
-        dest = h .dest ∙ m .dest;
-        left = h .left ∙ same-length (w .value);
-        free = h .escape ∙ m .free;
-        source-bound = m .source-bound;
-        dest-bound = m .dest-bound;
-        balance = omega (arith, m .balance);
-      }
-  written-match (register SVBK) = kept-match (stateAt s w (register SVBK)) refl
-  written-match (register FF72) = kept-match (stateAt s w (register FF72)) refl
-  written-match (register FF73) = kept-match (stateAt s w (register FF73)) refl
-  written-match (register FF74) = kept-match (stateAt s w (register FF74)) refl
-  written-match (register FF75) = kept-match (stateAt s w (register FF75)) refl
-
-  -- a locked register is one of the ledger's, or keeps the core anyway
-  unlocked-elsewhere : (p : Place) → locks p ≡ false → follows p ≡ elsewhere
-  unlocked-elsewhere (workRam i) h = refl
-  unlocked-elsewhere (bankedRam i) h = refl
-  unlocked-elsewhere (extraOam i) h = refl
-  unlocked-elsewhere unmapped h = refl
-  unlocked-elsewhere (register KEY0) h = refl
-  unlocked-elsewhere (register KEY1) h = refl
-  unlocked-elsewhere (register VBK) h = refl
-  unlocked-elsewhere (register HDMA1) h = absurd (false≢true (sym h))
-  unlocked-elsewhere (register HDMA2) h = absurd (false≢true (sym h))
-  unlocked-elsewhere (register HDMA3) h = absurd (false≢true (sym h))
-  unlocked-elsewhere (register HDMA4) h = absurd (false≢true (sym h))
-  unlocked-elsewhere (register HDMA5) h = absurd (false≢true (sym h))
-  unlocked-elsewhere (register SVBK) h = refl
-  unlocked-elsewhere (register FF72) h = refl
-  unlocked-elsewhere (register FF73) h = refl
-  unlocked-elsewhere (register FF74) h = refl
-  unlocked-elsewhere (register FF75) h = refl
+  written-match (register HDMA5) = length-written
+  written-match (register SVBK) = kept (stateAt s w (register SVBK)) refl refl
+  written-match (register FF72) = kept (stateAt s w (register FF72)) refl refl
+  written-match (register FF73) = kept (stateAt s w (register FF73)) refl refl
+  written-match (register FF74) = kept (stateAt s w (register FF74)) refl refl
+  written-match (register FF75) = kept (stateAt s w (register FF75)) refl refl
 
   -- "Accepted, unlocked FF51–FF55 writes act as in section 1"; locked ones, and all others, on neither
-  pub write-match : (a : ℕ) → Match k (coreOf (mapWriteOf s w a .state)) (cond (k .compat) l (afterWrite (followed a) (w .value) l))
+  pub write-match : (a : ℕ) → WriteMatch k s (mapWriteOf s w a .state) (cond (k .compat) l (afterWrite (followed a) (w .value) l))
   unfolding mapWriteOf storedOf locksAt
   write-match a = by (s .«dmg_compat») (k .compat) (locks (placeOf a)) refl (m .locked) refl
     where
       by :
           (d c lock : Bool) → s .«dmg_compat» ≡ d → d ≡ c → locks (placeOf a) ≡ lock →
           (let t : MapWritten = cond {A = MapWritten} (d && lock) (record { mapped = isMapped (placeOf a); state = s }) (storedOf s w a) in
-          Match k (coreOf (t .state)) (cond c l (afterWrite (followed a) (w .value) l)))
-      by true true true e f g = m
+          WriteMatch k s (t .state) (cond c l (afterWrite (followed a) (w .value) l)))
+      by true true true e f g = kept s refl refl
       by true true false e f g =
-          kept-match (stateAt s w (placeOf a)) (core-kept s w (placeOf a) (unlocked-elsewhere (placeOf a) g))
+          subst (λ (x : Followed). WriteMatch k s (stateAt s w (placeOf a)) (afterWrite x (w .value) l)) (unlocked-elsewhere (placeOf a) g)
+          (written-match (placeOf a))
       by true false lock e f g = absurd (false≢true (sym f))
       by false true lock e f g = absurd (false≢true f)
       by false false lock e f g = rw (← same-map a) (written-match (placeOf a))
-
-  pub write-quota : (a : ℕ) → quota (mapWriteOf s w a .state) ≡ quota s
-  unfolding mapWriteOf storedOf
-  write-quota a = by (s .«dmg_compat» && locksAt a)
-    where
-      by : (b : Bool) → quota (cond {A = MapWritten} b (record { mapped = isMapped (placeOf a); state = s }) (storedOf s w a) .state) ≡ quota s
-      by true = refl
-      by false = quota-kept s w (placeOf a)
