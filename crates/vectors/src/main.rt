@@ -1,9 +1,7 @@
 // Replays vectors that the original made (differential/): each is a call, the state before, the
 // original's answer, the state after and the bytes of memory that it changed. Any difference is a line.
-mod bus_vector;
-mod call;
-mod fields;
 mod lent;
+mod vector;
 
 use libc::STDIN_FILENO;
 use libc::STDOUT_FILENO;
@@ -36,15 +34,15 @@ fn one_more(n: u64) -> u64 {
 
 fn replay(
     t: Tally,
-    record: &[u8; 576],
+    vector: &[u8; 568],
     cartridge: &mut [u8],
     wram: &mut [u8],
     vram: &mut [u8],
     oam: &mut [u8],
 ) -> Tally {
-    let same = call::agrees(record, cartridge, wram, vram, oam);
+    let same = vector::agrees(vector, cartridge, wram, vram, oam);
     if !same {
-        differs(t, record[0]);
+        differs(t, vector[0]);
     }
     let missed = if same {
         t.differences
@@ -67,13 +65,13 @@ fn replay_all(
 ) -> Tally {
     let mut t = start;
     let mut turns: u64 = 1_000_000_000_000;
-    let mut record = [0u8; 576];
+    let mut vector = [0u8; 568];
     while turns > 0 {
-        let got = io::read_full(STDIN_FILENO, &mut record);
-        if got < 576 {
+        let got = io::read_full(STDIN_FILENO, &mut vector);
+        if got < 568 {
             return t;
         }
-        t = replay(t, &record, cartridge, wram, vram, oam);
+        t = replay(t, &vector, cartridge, wram, vram, oam);
         turns -= 1;
     }
     t

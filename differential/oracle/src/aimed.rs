@@ -6,7 +6,7 @@ use std::io::Write;
 
 use crate::calls::{Call, Oracle, kind};
 use crate::layout::SIZE;
-use crate::vectors;
+use crate::vector::Vector;
 
 /// A field of the state: its first byte in docs/STATE-LAYOUT.md and how many it has.
 #[derive(Clone, Copy)]
@@ -159,14 +159,14 @@ impl Aim<'_> {
             return;
         }
         call.record[1] = (self.seen.len() * 29) as u8;
-        let (mut bytes, _) = vectors::record(&mut self.oracle, &call, &state.0);
-        let stored = call.record[0] == kind::WRITE && bytes[280] == 0 && (0xC000..0xFE00).contains(&call.address());
-        if stored && bytes[560] == 0 {
+        let mut vector = Vector::of(&mut self.oracle, call, state.0);
+        let written = call.record[0] == kind::WRITE && vector.answer.refusal() == 0;
+        if written && (0xC000..0xFE00).contains(&call.address()) && vector.changes.is_empty() {
             call.record[1] ^= 1;
-            (bytes, _) = vectors::record(&mut self.oracle, &call, &state.0);
-            assert_ne!(bytes[560], 0);
+            vector = Vector::of(&mut self.oracle, call, state.0);
+            assert!(!vector.changes.is_empty());
         }
-        self.out.write_all(&bytes).unwrap();
+        self.out.write_all(&vector.bytes()).unwrap();
     }
 
     /// The calls on a state, and on it with each of the changes alone.
@@ -190,7 +190,7 @@ impl Aim<'_> {
 /// All of power-on, without compat and with it.
 fn power_on(a: &mut Aim) {
     for compat in 0..2 {
-        a.out.write_all(&vectors::power_on(&a.oracle, compat)).unwrap();
+        a.out.write_all(&Vector::power_on(&a.oracle, compat).bytes()).unwrap();
     }
 }
 
@@ -853,10 +853,26 @@ fn two_reasons(a: &mut Aim) {
     a.around(a.rest().with(&[(KEY1, 1)]), &[], &[switch(255, 0), switch(5, 0), switch(4, 1)]);
 }
 
+/// What the exported entry declines by itself: a byte that no state has, at each sort of place; a record of no call; both, and
+/// the second with a state that fails refusal 7.
+fn entry(a: &mut Aim) {
+    let spare = Field(91, 1);
+    let last = Field(SIZE - 1, 1);
+    let bytes = [MODE, ESCAPE, TAKEN, PEND, CONTENDED, KEY1, LATENCY, STANDING, spare, last];
+    let none = [kind::LAST + 1, 99, 255].map(plain);
+    a.around(a.rest(), &[], &none);
+    a.around(a.rest().with(&[(QUOTA, 3)]), &[], &none[..1]);
+    for field in bytes {
+        a.around(a.rest().with(&[(field, 3)]), &[], &[plain(kind::TALLY), none[0]]);
+    }
+    // A number beside the tag that says that there is none.
+    a.around(a.rest().with(&[(LATENCY, 0), (LATENCY_LEFT, 1)]), &[], &[plain(kind::TALLY)]);
+}
+
 pub fn write_all(out: &mut dyn Write) {
     let mut a = Aim { oracle: Oracle::new(), out, seen: HashSet::new() };
     type Part = (&'static str, fn(&mut Aim));
-    let parts: [Part; 19] = [
+    let parts: [Part; 20] = [
         ("write conflict", conflict),
         ("questions", questions),
         ("arbitration", arbitration),
@@ -876,6 +892,7 @@ pub fn write_all(out: &mut dyn Write) {
         ("fall: pend to seize count", serves),
         ("refusal 7", unreached),
         ("two reasons", two_reasons),
+        ("the entry's own", entry),
     ];
     power_on(&mut a);
     for (name, part) in parts {

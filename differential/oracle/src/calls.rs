@@ -7,6 +7,7 @@ use missingno_gb::ppu::memory::{Vram, VramAddress};
 use missingno_gb::ppu::rendering::Mode;
 use missingno_gb::{Chassis, ConsoleShadow, VramDmaClaim};
 
+use crate::answer::Answer;
 use crate::layout::{self, SIZE};
 use crate::memory::{self, Change, filled};
 use crate::{Cgb, VramDmaStatus};
@@ -73,11 +74,16 @@ impl Call {
     }
 }
 
-/// What a call gave: byte 0 of the answer is the refusal, or 0; the values follow.
 pub struct Outcome {
-    pub answer: [u8; 32],
+    pub answer: Answer,
     pub state: [u8; SIZE],
     pub changes: Vec<Change>,
+}
+
+impl Outcome {
+    fn declined(number: u8, before: &[u8; SIZE]) -> Self {
+        Self { answer: Answer::refused(number), state: *before, changes: Vec::new() }
+    }
 }
 
 /// Refusal 7, on the bytes.
@@ -204,17 +210,33 @@ impl Oracle {
         changes
     }
 
+    /// Bytes are a state's if the original's state, written back, gives them again. FF4F's bank keeps one bit there; that it
+    /// has no other is a test of refusal 7.
+    fn is_state(&mut self, bytes: &[u8; SIZE]) -> bool {
+        self.load(bytes);
+        let mut again = self.store();
+        again[80] = bytes[80];
+        again == *bytes
+    }
+
+    /// A call as the exported entry takes it: 7 for bytes that are no state's, then 6 for a record of no call.
+    pub fn enter(&mut self, call: &Call, before: &[u8; SIZE]) -> Outcome {
+        if !self.is_state(before) {
+            return Outcome::declined(7, before);
+        }
+        if !(1..=kind::LAST).contains(&call.record[0]) {
+            return Outcome::declined(6, before);
+        }
+        self.perform(call, before)
+    }
+
     pub fn perform(&mut self, call: &Call, before: &[u8; SIZE]) -> Outcome {
-        let declined = |number: u8| {
-            let mut answer = [0; 32];
-            answer[0] = number;
-            Outcome { answer, state: *before, changes: Vec::new() }
-        };
+        let declined = |number: u8| Outcome::declined(number, before);
         if unreached(before) {
             return declined(7);
         }
         self.load(before);
-        let mut answer = [0u8; 32];
+        let mut answer = Answer::default();
         let mut changes = Vec::new();
         let seed = call.record[1];
         match call.record[0] {
@@ -229,7 +251,7 @@ impl Oracle {
                 if call.record[0] == kind::READ {
                     let vram = &self.chassis.vram_bus.vram;
                     match self.cgb.map_read_byte(call.address(), &self.chassis.ppu, vram) {
-                        Some(byte) => answer[1] = byte,
+                        Some(byte) => answer = Answer::value(byte),
                         None => return declined(4),
                     }
                 } else {
@@ -263,8 +285,7 @@ impl Oracle {
                     return declined(14);
                 }
                 let claim = self.cgb.console_state.vram_dma_claim();
-                answer[1] = claim.committed as u8;
-                answer[2] = claim.standing as u8;
+                answer = Answer::values(&[claim.committed.into(), claim.standing.into()]);
                 if !claim.committed {
                     self.cgb.console_state.set_vram_dma_claim(kept);
                 }
@@ -276,9 +297,7 @@ impl Oracle {
                     self.cgb.vram_dma.drain_escape()
                 };
                 if let Some((source, dest)) = pair {
-                    answer[1] = 1;
-                    answer[2..4].copy_from_slice(&source.to_le_bytes());
-                    answer[4..6].copy_from_slice(&dest.to_le_bytes());
+                    answer = Answer::values(&[1, source, dest]);
                 }
             }
             kind::SWITCH => {
@@ -303,12 +322,12 @@ impl Oracle {
                 let discarded = up && latched && self.cgb.vram_dma.block.remaining == 0;
                 assert!(!up || !latched || cut != discarded);
                 assert!(cut || escape == self.cgb.vram_dma.cursor.escape_byte);
-                answer[1] = if cut { 2 } else { discarded as u8 };
+                answer = Answer::value(if cut { 2 } else { discarded as u8 });
             }
             kind::LCD_OFF => self.cgb.vram_dma_on_lcd_disabled(),
             kind::BLACKOUT => {
                 let elapsed = u32::from_le_bytes(call.record[8..12].try_into().unwrap());
-                answer[1] = self.cgb.drain_blackout(elapsed) as u8;
+                answer = Answer::value(self.cgb.drain_blackout(elapsed));
             }
             kind::BUS => {
                 if !(0..4).all(|k| call.whole(k)) {
@@ -327,13 +346,10 @@ impl Oracle {
                 let moved = |c: &&(u16, u16, u8)| c.1 < 0xA000;
                 let pairs: Vec<_> = self.chassis.commits.iter().filter(moved).collect();
                 assert!(pairs.len() <= 2 && self.chassis.commits.len() <= pairs.len() + 1);
-                answer[1] = pairs.len() as u8;
-                answer[2] = (self.cgb.vram_dma.block.setup_cells.remaining() < cells) as u8;
+                let cell = self.cgb.vram_dma.block.setup_cells.remaining() < cells;
+                answer = Answer::values(&[pairs.len() as u16, cell.into()]);
                 for (k, (source, dest, byte)) in pairs.iter().enumerate() {
-                    let at = 3 + 5 * k;
-                    answer[at..at + 2].copy_from_slice(&source.to_le_bytes());
-                    answer[at + 2..at + 4].copy_from_slice(&dest.to_le_bytes());
-                    answer[at + 4] = *byte;
+                    answer = answer.with_pair(k, *source, *dest, *byte);
                 }
             }
             kind::ARBITRATE => {
@@ -344,51 +360,38 @@ impl Oracle {
                 let either = self.cgb.vram_dma_arbitrate_oam_bus(&mut self.chassis);
                 let stalled = self.chassis.dma.stalled;
                 assert!(either || !stalled);
-                answer[1] = if stalled { 2 } else { either as u8 };
+                answer = Answer::value(if stalled { 2 } else { either as u8 });
             }
             kind::WRITE_CONFLICT => {
                 if let Some(source) = self.cgb.vram_dma_write_conflict_source(call.address()) {
-                    answer[1] = 1;
-                    answer[2..4].copy_from_slice(&source.to_le_bytes());
+                    answer = Answer::values(&[1, source]);
                 }
             }
-            kind::WAKE_INTAKE => answer[1] = self.cgb.wake_intake_ready(call.bit(0)) as u8,
+            kind::WAKE_INTAKE => answer = Answer::value(self.cgb.wake_intake_ready(call.bit(0))),
             kind::INSTRUCTION_RETIRED => self.cgb.vram_dma.arb.park_waits_for_fetch = false,
             kind::TALLY => {
                 let c = &self.cgb.vram_dma.cursor;
-                answer[2..4].copy_from_slice(&c.source.to_le_bytes());
-                answer[4..6].copy_from_slice(&c.dest.to_le_bytes());
-                answer[6..8].copy_from_slice(&c.remaining.to_le_bytes());
-                answer[1] = c.escape_byte as u8;
+                answer = Answer::values(&[c.source, c.dest, c.remaining, c.escape_byte.into()]);
             }
             kind::STATUS => match self.cgb.vram_dma_status() {
                 VramDmaStatus::Idle => {}
-                VramDmaStatus::General { remaining } => {
-                    answer[1] = 1;
-                    answer[2..4].copy_from_slice(&remaining.to_le_bytes());
-                }
-                VramDmaStatus::HBlank { remaining, source, dest } => {
-                    answer[1] = 2;
-                    answer[2..4].copy_from_slice(&remaining.to_le_bytes());
-                    answer[4..6].copy_from_slice(&source.to_le_bytes());
-                    answer[6..8].copy_from_slice(&dest.to_le_bytes());
-                }
+                VramDmaStatus::General { remaining } => answer = Answer::values(&[1, remaining]),
+                VramDmaStatus::HBlank { remaining, source, dest } => answer = Answer::values(&[2, remaining, source, dest]),
             },
             kind::CLAIM => {
                 let claim = self.cgb.console_state.vram_dma_claim();
-                answer[1] = claim.committed as u8;
-                answer[2] = claim.standing as u8;
+                answer = Answer::values(&[claim.committed.into(), claim.standing.into()]);
             }
-            kind::PARK => answer[1] = self.cgb.vram_dma.arb.park_waits_for_fetch as u8,
-            kind::REQUEST_STANDING => answer[1] = self.cgb.vram_dma.request_standing() as u8,
-            kind::HOLDS_CPU => answer[1] = self.cgb.vram_dma.holds_cpu() as u8,
-            kind::SEIZES_BUS => answer[1] = self.cgb.vram_dma.seizes_bus() as u8,
-            kind::BLACKOUT_ACTIVE => answer[1] = self.cgb.blackout_active() as u8,
-            kind::DIVIDER_ACTIVE => answer[1] = self.cgb.blackout_divider_active() as u8,
-            kind::DOUBLE_SPEED => answer[1] = self.cgb.double_speed() as u8,
-            kind::STEPS_PER_DOT => answer[1] = self.cgb.steps_per_dot(),
-            kind::WRAM_BANK => answer[1] = self.cgb.wram_bank(),
-            kind::SVBK => answer[1] = self.cgb.svbk_register(),
+            kind::PARK => answer = Answer::value(self.cgb.vram_dma.arb.park_waits_for_fetch),
+            kind::REQUEST_STANDING => answer = Answer::value(self.cgb.vram_dma.request_standing()),
+            kind::HOLDS_CPU => answer = Answer::value(self.cgb.vram_dma.holds_cpu()),
+            kind::SEIZES_BUS => answer = Answer::value(self.cgb.vram_dma.seizes_bus()),
+            kind::BLACKOUT_ACTIVE => answer = Answer::value(self.cgb.blackout_active()),
+            kind::DIVIDER_ACTIVE => answer = Answer::value(self.cgb.blackout_divider_active()),
+            kind::DOUBLE_SPEED => answer = Answer::value(self.cgb.double_speed()),
+            kind::STEPS_PER_DOT => answer = Answer::value(self.cgb.steps_per_dot()),
+            kind::WRAM_BANK => answer = Answer::value(self.cgb.wram_bank()),
+            kind::SVBK => answer = Answer::value(self.cgb.svbk_register()),
             other => unreachable!("kind {other}"),
         }
         Outcome { answer, state: self.store(), changes }

@@ -2,9 +2,10 @@
 //! and every call of every case is written as a vector, so that the port can be held beside it.
 use std::io::Write;
 
+use crate::answer::Answer;
 use crate::calls::{Call, Oracle, kind};
 use crate::layout::SIZE;
-use crate::vectors;
+use crate::vector::Vector;
 
 struct Case<'a> {
     oracle: &'a mut Oracle,
@@ -15,25 +16,28 @@ struct Case<'a> {
 }
 
 impl Case<'_> {
-    fn call(&mut self, call: Call) -> [u8; 32] {
-        let (bytes, after) = vectors::record(self.oracle, &call, &self.state);
+    fn vector(&mut self, call: Call) -> Vector {
+        let vector = Vector::of(self.oracle, call, self.state);
         if self.written {
-            self.out.write_all(&bytes).unwrap();
+            self.out.write_all(&vector.bytes()).unwrap();
         }
-        self.state = after;
-        bytes[280..312].try_into().unwrap()
+        self.state = vector.after;
+        vector
+    }
+    fn call(&mut self, call: Call) -> Answer {
+        self.vector(call).answer
     }
     fn set(&mut self, address: u16, value: u8) {
         let mut c = Call::new(kind::WRITE);
         c.record[2..4].copy_from_slice(&address.to_le_bytes());
         c.record[4] = value;
         c.record[5] = 1;
-        assert_eq!(self.call(c)[0], 0);
+        assert_eq!(self.call(c).refusal(), 0);
     }
     fn read(&mut self, address: u16) -> u8 {
         let mut c = Call::new(kind::READ);
         c.record[2..4].copy_from_slice(&address.to_le_bytes());
-        self.call(c)[1]
+        self.call(c).nth(0) as u8
     }
     fn ff55(&mut self) -> u8 {
         self.read(0xFF55)
@@ -44,7 +48,7 @@ impl Case<'_> {
         c.record[4] = mode;
         c.record[5] = flags;
         c.record[8..16].copy_from_slice(&edge.to_le_bytes());
-        self.call(c)[0]
+        self.call(c).refusal()
     }
     /// A held bus call: its pairs, and whether it took a set-up cell.
     fn bus(&mut self, oam_edge: u64) -> (Vec<(u16, u16)>, bool) {
@@ -52,23 +56,22 @@ impl Case<'_> {
         c.record[5] = 1;
         c.record[8..16].copy_from_slice(&oam_edge.to_le_bytes());
         let a = self.call(c);
-        assert_eq!(a[0], 0);
-        let word = |at: usize| u16::from_le_bytes([a[at], a[at + 1]]);
-        let pairs = (0..a[1] as usize).map(|k| (word(3 + 5 * k), word(5 + 5 * k))).collect();
-        (pairs, a[2] == 1)
+        assert_eq!(a.refusal(), 0);
+        let pairs = (0..a.nth(0).into()).map(|k| a.pair(k)).collect();
+        (pairs, a.nth(1) == 1)
     }
     /// 0 none, 1 discarded, 2 cut.
-    fn switch(&mut self, phase: u8) -> u8 {
+    fn switch(&mut self, phase: u8) -> u16 {
         let mut c = Call::new(kind::SWITCH);
         c.record[4] = phase;
         let a = self.call(c);
-        assert_eq!(a[0], 0);
-        a[1]
+        assert_eq!(a.refusal(), 0);
+        a.nth(0)
     }
     fn drain_blackout(&mut self, elapsed: u32) {
         let mut c = Call::new(kind::BLACKOUT);
         c.record[8..12].copy_from_slice(&elapsed.to_le_bytes());
-        assert_eq!(self.call(c)[1], 1);
+        assert_eq!(self.call(c).nth(0), 1);
     }
     fn blackout(&self) -> u32 {
         u32::from_le_bytes(self.state[45..49].try_into().unwrap())
@@ -156,19 +159,13 @@ fn k8(c: &mut Case, block_edge: u64, oam_edge: u64, second: bool) {
     c.fall(0, 0, 0);
     let mut arbitrate = Call::new(kind::ARBITRATE);
     arbitrate.record[5] = 5;
-    assert_eq!(c.call(arbitrate)[1], 1);
+    assert_eq!(c.call(arbitrate).nth(0), 1);
     let mut bus = Call::new(kind::BUS);
     bus.record[1] = 7;
     bus.record[5] = 1;
     bus.record[8..16].copy_from_slice(&oam_edge.to_le_bytes());
-    let (bytes, after) = vectors::record(c.oracle, &bus, &c.state);
-    c.out.write_all(&bytes).unwrap();
-    c.state = after;
-    let deposits: Vec<u16> = (0..4)
-        .map(|k| 560 + 4 * k)
-        .filter(|&at| bytes[at] == 3)
-        .map(|at| u16::from_le_bytes([bytes[at + 1], bytes[at + 2]]))
-        .collect();
+    let moved = c.vector(bus);
+    let deposits: Vec<u16> = moved.changes.iter().filter(|change| change.which == 3).map(|change| change.index).collect();
     assert_eq!(deposits, vec![second as u16], "edges {block_edge} and {oam_edge}");
 }
 

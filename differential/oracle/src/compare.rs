@@ -3,6 +3,7 @@
 //! the calls at arbitrary states. A refusal is checked for its number, for an answer of that number and zeros, and for
 //! state and memory as before. What the original has no call for, a record of another kind and bytes that no state has,
 //! is given to the port alone, now and then.
+use crate::answer::{self, Answer};
 use crate::calls::{Call, Oracle, kind};
 use crate::finer;
 use crate::layout::SIZE;
@@ -47,7 +48,7 @@ const STRICT: [usize; 10] = [4, 8, 18, 24, 40, 42, 49, 90, 91, SIZE - 1];
 struct Gave {
     result: u8,
     state: [u8; SIZE],
-    answer: [u8; 24],
+    answer: Answer,
 }
 
 const LENGTHS: [usize; 4] = [memory::CARTRIDGE, memory::WRAM, memory::VRAM, memory::OAM];
@@ -67,14 +68,14 @@ impl Port {
     fn perform(&mut self, call: &Call, before: &[u8; SIZE]) -> Gave {
         let mut state = *before;
         // Whatever stood in the answer must not show in it.
-        let mut answer = [0xA5; 24];
+        let mut answer = Answer([0xA5; answer::SIZE]);
         let [cartridge, wram, vram, oam] = &mut self.memory;
         let n = call.lengths.map(|n| n as usize);
         let result = unsafe {
             cgb_perform(
                 state.as_mut_ptr(),
                 call.record.as_ptr(),
-                answer.as_mut_ptr(),
+                answer.0.as_mut_ptr(),
                 cartridge.as_ptr(),
                 n[0],
                 wram.as_mut_ptr(),
@@ -87,39 +88,6 @@ impl Port {
         };
         Gave { result, state, answer }
     }
-}
-
-/// A refused call's answer: the number and zeros.
-fn refused(number: u8) -> [u8; 24] {
-    let mut out = [0; 24];
-    out[0] = number;
-    out
-}
-
-/// The original's answer in the port's layout.
-fn expected(which: u8, a: &[u8; 32]) -> [u8; 24] {
-    let mut out = refused(a[0]);
-    if a[0] != 0 {
-        return out;
-    }
-    let word = |at: usize| u16::from_le_bytes([a[at], a[at + 1]]);
-    let values;
-    match which {
-        kind::TALLY => values = [word(2), word(4), word(6), a[1] as u16],
-        kind::FALL | kind::CLAIM => values = [a[1] as u16, a[2] as u16, 0, 0],
-        kind::BUS => {
-            values = [a[1] as u16, a[2] as u16, 0, 0];
-            for k in 0..2 {
-                out[10 + 4 * k..14 + 4 * k].copy_from_slice(&a[3 + 5 * k..7 + 5 * k]);
-                out[18 + k] = a[7 + 5 * k];
-            }
-        }
-        _ => values = [a[1] as u16, word(2), word(4), word(6)],
-    }
-    for (k, v) in values.iter().enumerate() {
-        out[2 + 2 * k..4 + 2 * k].copy_from_slice(&v.to_le_bytes());
-    }
-    out
 }
 
 #[derive(Default)]
@@ -208,7 +176,7 @@ impl Run {
         let spare = self.spare();
         let Gave { result, state: after, answer } = self.port.perform(&call, &state);
         let number = if no_state { 7 } else { 6 };
-        let mut same = result == number && answer == refused(number);
+        let mut same = result == number && answer == Answer::refused(number);
         same &= after == state;
         same &= self.spare() == spare;
         same &= self.same_memory();
@@ -228,13 +196,13 @@ impl Run {
         let which = call.record[0] as usize;
         let spare = self.spare();
         let outcome = self.oracle.perform(&call, before);
-        if outcome.answer[0] == 14 {
+        if outcome.answer.refusal() == 14 {
             // An overflow is a panic of the original, after which it starts anew.
             self.synchronise();
         }
         let Gave { result, state, answer } = self.port.perform(&call, before);
-        let number = outcome.answer[0];
-        let mut same = result == number && answer == expected(call.record[0], &outcome.answer);
+        let number = outcome.answer.refusal();
+        let mut same = result == number && answer == outcome.answer;
         same &= state == outcome.state;
         same &= self.spare() == spare;
         same &= self.same_memory();
@@ -245,9 +213,9 @@ impl Run {
         self.report.calls[which] += 1;
         self.report.refusals[which][number as usize] += 1;
         if number == 0 {
-            self.report.answers[which][answer[2].min(2) as usize] += 1;
+            self.report.answers[which][answer.0[2].min(2) as usize] += 1;
         }
-        if call.record[0] == kind::BUS && number == 0 && answer[2] > 0 && before[40] == 1 {
+        if call.record[0] == kind::BUS && number == 0 && answer.nth(0) > 0 && before[40] == 1 {
             self.report.deposits += 1;
         }
         outcome.state

@@ -21,6 +21,6 @@ impl Entry {
         call.record = *record;
         let outcome = self.oracle.perform(&call, state);
         *state = outcome.state;
-        outcome.answer[0]
+        outcome.answer.refusal()
     }
 }

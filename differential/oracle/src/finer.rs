@@ -6,7 +6,8 @@ use std::io::{BufWriter, Write};
 use crate::calls::{Call, Oracle, kind, unreached};
 use crate::layout::SIZE;
 use crate::random::Random;
-use crate::vectors::{self, RECORD};
+use crate::vector::Vector;
+use crate::vectors;
 
 /// The engine's fields as (first byte, width, limit): a counter is drawn at its limit and beside it, a flag has limit 1.
 const FIELDS: [(usize, usize, u16); 27] = [
@@ -80,50 +81,56 @@ fn value_class(address: u16, value: u8) -> u8 {
     }
 }
 
+/// WRAM's slice has another length than it must have.
+fn wrong_wram(call: &Call) -> bool {
+    call.lengths[1] != Call::new(kind::WRITE).lengths[1]
+}
+
 /// Address, compat, bank, lengths, the slice that changed, the value's class.
-fn access_sort(b: &[u8; RECORD]) -> Vec<u16> {
-    let address = u16::from_le_bytes([b[2], b[3]]);
-    let class = if b[0] == kind::WRITE { value_class(address, b[4]) } else { 0 };
-    let wrong = (b[20..24] != (crate::memory::WRAM as u32).to_le_bytes()) as u16;
-    vec![place(address), b[32 + 44] as u16, b[32 + 41].min(2) as u16, wrong, b[560] as u16, class as u16]
+fn access_sort(v: &Vector) -> Vec<u16> {
+    let address = v.call.address();
+    let class = if v.call.record[0] == kind::WRITE { value_class(address, v.call.record[4]) } else { 0 };
+    let wrong = wrong_wram(&v.call) as u16;
+    vec![place(address), v.before[44] as u16, v.before[41].min(2) as u16, wrong, v.changed()[0] as u16, class as u16]
 }
 
 /// A state that fails refusal 7, and another reason beside it.
-fn two_reasons(b: &[u8; RECORD]) -> u16 {
-    let before: &[u8; SIZE] = b[32..280].try_into().unwrap();
-    let other = match b[0] {
-        kind::FALL => b[4] > 3,
-        kind::SWITCH => b[4] > 4 || b[5] & 1 == 1,
-        kind::READ | kind::WRITE => b[20..24] != (crate::memory::WRAM as u32).to_le_bytes(),
-        kind::BUS => Call::new(kind::BUS).lengths.iter().enumerate().any(|(k, n)| b[16 + 4 * k..20 + 4 * k] != n.to_le_bytes()),
+fn two_reasons(v: &Vector) -> bool {
+    let r = &v.call.record;
+    let other = match r[0] {
+        kind::FALL => r[4] > 3,
+        kind::SWITCH => r[4] > 4 || r[5] & 1 == 1,
+        kind::READ | kind::WRITE => wrong_wram(&v.call),
+        kind::BUS => v.call.lengths != Call::new(kind::BUS).lengths,
         _ => false,
     };
-    (unreached(before) && other) as u16
+    unreached(&v.before) && other
 }
 
 /// What tells a call of its kind apart besides the path.
-fn own_sort(b: &[u8; RECORD]) -> Vec<u16> {
-    let blackout = u32::from_le_bytes(b[77..81].try_into().unwrap());
-    match b[0] {
-        kind::READ | kind::WRITE => access_sort(b),
-        kind::CLAIM => vec![b[282] as u16],
-        kind::WRITE_CONFLICT => vec![b[32 + 21].min(3) as u16],
-        kind::BLACKOUT_ACTIVE | kind::DIVIDER_ACTIVE => vec![blackout.min(7) as u16, b[32 + 43] as u16],
-        kind::BUS => vec![b[281] as u16, b[282] as u16, place(u16::from_le_bytes([b[283], b[284]]))],
-        kind::WRAM_BANK | kind::SVBK => vec![b[281] as u16],
+fn own_sort(v: &Vector) -> Vec<u16> {
+    let (before, answer) = (&v.before, &v.answer);
+    let blackout = u32::from_le_bytes(before[45..49].try_into().unwrap());
+    match v.call.record[0] {
+        kind::READ | kind::WRITE => access_sort(v),
+        kind::CLAIM => vec![answer.nth(1)],
+        kind::WRITE_CONFLICT => vec![before[21].min(3) as u16],
+        kind::BLACKOUT_ACTIVE | kind::DIVIDER_ACTIVE => vec![blackout.min(7) as u16, before[43] as u16],
+        kind::BUS => vec![answer.nth(0), answer.nth(1), place(answer.pair(0).0)],
+        kind::WRAM_BANK | kind::SVBK => vec![answer.nth(0)],
         _ => Vec::new(),
     }
 }
 
 /// The outcomes of the original's conditions in the call just made, where it was built to tell them (BRANCHES).
 #[cfg(branches)]
-fn path(_: &[u8; RECORD]) -> Vec<u16> {
+fn path(_: &Vector) -> Vec<u16> {
     crate::reached::path()
 }
 
 #[cfg(not(branches))]
-fn path(bytes: &[u8; RECORD]) -> Vec<u16> {
-    (0..91).filter(|k| bytes[32 + k] != bytes[312 + k]).map(|k| k as u16).collect()
+fn path(v: &Vector) -> Vec<u16> {
+    v.touched().into_iter().map(|k| k as u16).collect()
 }
 
 pub fn select(seed: u64, count: u64) {
@@ -137,10 +144,10 @@ pub fn select(seed: u64, count: u64) {
         aim(&mut r, &mut call, &before);
         #[cfg(branches)]
         crate::reached::begin();
-        let (bytes, _) = vectors::record(&mut oracle, &call, &before);
-        let sort = (bytes[0], bytes[280], two_reasons(&bytes), own_sort(&bytes), path(&bytes));
+        let v = Vector::of(&mut oracle, call, before);
+        let sort = (v.call.record[0], v.answer.refusal(), two_reasons(&v), own_sort(&v), path(&v));
         if seen.insert(sort) {
-            out.write_all(&bytes).unwrap();
+            out.write_all(&v.bytes()).unwrap();
         }
     }
     out.flush().unwrap();

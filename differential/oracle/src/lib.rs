@@ -17,6 +17,7 @@
 //! The originals name `crate::Cgb`, `crate::vram_dma` and so on, so they stand at this crate's root.
 
 mod aimed;
+mod answer;
 mod calls;
 mod cases;
 #[cfg(port)]
@@ -29,6 +30,7 @@ mod memory;
 mod random;
 pub mod replay;
 mod sample;
+mod vector;
 mod vectors;
 
 include!(concat!(env!("OUT_DIR"), "/originals.rs"));

@@ -1,17 +1,12 @@
-//! Vectors: half of them step lists of calls from power-on, half start from arbitrary states, of which a few
-//! fail refusal 7. One vector is 576 bytes: 0-15 the call's record, 16-31 the four lengths, 32-279 the state
-//! before, 280-311 the answer, 312-559 the state after, 560-575 up to four changed bytes of memory (which
-//! slice, or 0 for none; the index in two bytes; the value). An answer is the refusal, or 0, and then the
-//! values; of a bus call 280 the refusal, 281 the count of pairs, 282 the set-up cell, 283-287 the first
-//! pair's source, destination and byte, 288-292 the second's.
+//! Vectors at random: half of them step lists of calls from power-on, half start from arbitrary states, of which a few
+//! fail refusal 7.
 use std::collections::HashSet;
 use std::io::{BufWriter, Read, Write};
 
 use crate::calls::{Call, Oracle, kind};
 use crate::layout::SIZE;
 use crate::random::Random;
-
-pub const RECORD: usize = 576;
+use crate::vector::{self, Vector};
 
 fn edge(r: &mut Random) -> u64 {
     match r.below(4) {
@@ -229,28 +224,8 @@ pub fn state(r: &mut Random) -> [u8; SIZE] {
     s
 }
 
-pub fn record(oracle: &mut Oracle, call: &Call, before: &[u8; SIZE]) -> ([u8; RECORD], [u8; SIZE]) {
-    let outcome = oracle.perform(call, before);
-    let mut out = [0u8; RECORD];
-    out[..16].copy_from_slice(&call.record);
-    for (k, n) in call.lengths.iter().enumerate() {
-        out[16 + 4 * k..20 + 4 * k].copy_from_slice(&n.to_le_bytes());
-    }
-    out[32..32 + SIZE].copy_from_slice(before);
-    out[280..312].copy_from_slice(&outcome.answer);
-    out[312..560].copy_from_slice(&outcome.state);
-    assert!(outcome.changes.len() <= 4);
-    for (k, change) in outcome.changes.iter().enumerate() {
-        let at = 560 + 4 * k;
-        out[at] = change.which;
-        out[at + 1..at + 3].copy_from_slice(&change.index.to_le_bytes());
-        out[at + 3] = change.value;
-    }
-    (out, outcome.state)
-}
-
 /// Makes vectors and hands each to `take`, until it has been given `count` or says that it has enough.
-fn generate(seed: u64, count: u64, kinds: &[u8], mut take: impl FnMut(&[u8; RECORD]) -> bool) {
+fn generate(seed: u64, count: u64, kinds: &[u8], mut take: impl FnMut(&Vector) -> bool) {
     let mut r = Random::new(seed);
     let mut oracle = Oracle::new();
     let mut given = 0;
@@ -262,10 +237,10 @@ fn generate(seed: u64, count: u64, kinds: &[u8], mut take: impl FnMut(&[u8; RECO
             // A list of calls goes on from power-on; else each call has a state of its own.
             let c = if listed { likely(&mut r, kinds, step, &mut phase) } else { call(&mut r, kinds) };
             let before = if listed { now } else { state(&mut r) };
-            let (bytes, after) = record(&mut oracle, &c, &before);
-            now = after;
+            let vector = Vector::of(&mut oracle, c, before);
+            now = vector.after;
             given += 1;
-            if !take(&bytes) || given == count {
+            if !take(&vector) || given == count {
                 break;
             }
         }
@@ -294,7 +269,7 @@ fn words(words: &[String], usage: &str) -> Words {
 pub fn write(given: &[String], usage: &str) {
     let w = words(given, usage);
     let mut out = BufWriter::new(std::io::stdout().lock());
-    generate(w.seed, w.count, &w.kinds, |bytes| out.write_all(bytes).is_ok());
+    generate(w.seed, w.count, &w.kinds, |vector| out.write_all(&vector.bytes()).is_ok());
     out.flush().unwrap();
 }
 
@@ -311,24 +286,23 @@ fn source_part(source: u16) -> u8 {
 }
 
 /// The phase of a contended call that moves something, and 4 of others.
-fn phase(bytes: &[u8; RECORD]) -> u8 {
-    let edge = |at: usize| u64::from_le_bytes(bytes[at..at + 8].try_into().unwrap());
-    let apart = edge(32 + 10).wrapping_sub(edge(8)).wrapping_sub(2);
-    if bytes[32 + 40] == 1 && bytes[281] > 0 { (apart / 2 % 4) as u8 } else { 4 }
+fn phase(v: &Vector) -> u8 {
+    let start = u64::from_le_bytes(v.before[10..18].try_into().unwrap());
+    let apart = start.wrapping_sub(v.call.edge()).wrapping_sub(2);
+    if v.before[40] == 1 && v.answer.nth(0) > 0 { (apart / 2 % 4) as u8 } else { 4 }
 }
 
 /// What tells a bus call apart besides: the slices' lengths, the set-up cell, the slices of its changed bytes,
 /// the part that its first byte came from and the phase, so that each wrong length, each part and each phase
 /// with its deposit are selected.
-fn bus_sort(bytes: &[u8; RECORD]) -> Vec<u8> {
-    if bytes[0] != kind::BUS {
-        return Vec::new();
-    }
-    let places = (16..32).chain([282, 560, 564, 568, 572]);
-    let mut sort: Vec<u8> = places.map(|at| bytes[at]).collect();
-    sort.push(source_part(u16::from_le_bytes([bytes[283], bytes[284]])));
-    sort.push(phase(bytes));
-    sort
+fn bus_sort(v: &Vector) -> Option<([u32; 4], u16, [u8; 4], u8, u8)> {
+    let own = (v.call.lengths, v.answer.nth(1), v.changed(), source_part(v.answer.pair(0).0), phase(v));
+    (v.call.record[0] == kind::BUS).then_some(own)
+}
+
+/// What an answer says first; a tally says three numbers of the state, and then whether an escape is owed.
+fn says(v: &Vector) -> u8 {
+    v.answer.nth(if v.call.record[0] == kind::TALLY { 3 } else { 0 }) as u8
 }
 
 /// The first vector of each sort among `count`: kind, refusal, answer, and which bytes of the state changed.
@@ -336,10 +310,9 @@ pub fn select(given: &[String], usage: &str) {
     let w = words(given, usage);
     let mut out = BufWriter::new(std::io::stdout().lock());
     let mut seen = HashSet::new();
-    generate(w.seed, w.count, &w.kinds, |bytes| {
-        let changed: Vec<bool> = (0..91).map(|k| bytes[32 + k] != bytes[312 + k]).collect();
-        let sort = (bytes[0], bytes[280], bytes[281], bus_sort(bytes), changed);
-        !seen.insert(sort) || out.write_all(bytes).is_ok()
+    generate(w.seed, w.count, &w.kinds, |v| {
+        let sort = (v.call.record[0], v.answer.refusal(), says(v), bus_sort(v), v.touched());
+        !seen.insert(sort) || out.write_all(&v.bytes()).is_ok()
     });
     out.flush().unwrap();
     eprintln!("{} of {} vectors selected", seen.len(), w.count);
@@ -349,31 +322,13 @@ pub fn select(given: &[String], usage: &str) {
 pub fn stored(input: &mut dyn Read) {
     let mut oracle = Oracle::new();
     let (mut count, mut differ) = (0u64, 0u64);
-    let mut bytes = [0u8; RECORD];
+    let mut bytes = [0u8; vector::BYTES];
     while input.read_exact(&mut bytes).is_ok() {
-        let again = if bytes[0] == 0 { power_on(&oracle, bytes[4]) } else { record_again(&mut oracle, &bytes) };
         count += 1;
-        differ += (again != bytes) as u64;
+        differ += (Vector::again(&mut oracle, &bytes).bytes() != bytes) as u64;
     }
     println!("{count} stored vectors, {differ} differ from the original");
     if differ > 0 {
         std::process::exit(1);
     }
-}
-
-fn record_again(oracle: &mut Oracle, bytes: &[u8; RECORD]) -> [u8; RECORD] {
-    let mut call = Call::new(bytes[0]);
-    call.record.copy_from_slice(&bytes[..16]);
-    for (k, length) in call.lengths.iter_mut().enumerate() {
-        *length = u32::from_le_bytes(bytes[16 + 4 * k..20 + 4 * k].try_into().unwrap());
-    }
-    record(oracle, &call, bytes[32..280].try_into().unwrap()).0
-}
-
-/// A vector of kind 0, power-on: compat in byte 4, no state before, the original's `Default` after.
-pub fn power_on(oracle: &Oracle, compat: u8) -> [u8; RECORD] {
-    let mut bytes = [0u8; RECORD];
-    bytes[4] = compat;
-    bytes[312..560].copy_from_slice(&oracle.power_on(compat != 0));
-    bytes
 }

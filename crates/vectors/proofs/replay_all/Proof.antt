@@ -6,15 +6,15 @@ use Rattle.vectors.proofs.replay_all.Statement.{statement}
 use Rattle.vectors.proofs.replay_all.Tie as tie
 
 abbrev Inv-loop : tie.InvT-loop
-Inv-loop cartridge₀ wram₀ vram₀ oam₀ t₀ turns₀ record₀ cartridge wram vram oam t turns «record» =
-    (length «record» ≡ 576)
+Inv-loop cartridge₀ wram₀ vram₀ oam₀ t₀ turns₀ vector₀ cartridge wram vram oam t turns vector =
+    (length vector ≡ 568)
     × (length cartridge ≡ length cartridge₀)
     × (length wram ≡ length wram₀)
     × (length vram ≡ length vram₀)
     × (length oam ≡ length oam₀)
 
 abbrev μ-loop : tie.MeasureT-loop
-μ-loop cartridge₀ wram₀ vram₀ oam₀ t₀ turns₀ record₀ cartridge wram vram oam t turns «record» = turns
+μ-loop cartridge₀ wram₀ vram₀ oam₀ t₀ turns₀ vector₀ cartridge wram vram oam t turns vector = turns
 
 loop-holds : tie.Need-loop-holds Inv-loop μ-loop
 loop-holds c = search needs

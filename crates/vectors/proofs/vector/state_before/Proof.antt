@@ -1,16 +1,16 @@
--- `state_after` ends and stays inside its arrays. Assumes nothing.
+-- `state_before` ends and stays inside its arrays. Assumes nothing.
 use Prim.Native.Nat.{_≤_, _-_}
 use mathlib.Core.Path.{_≡_}
 use borrow.Author.Needs.{needs}
 use lib.ListN.{length}
-use Rattle.vectors.proofs.call.state_after.Statement.{statement}
-use Rattle.vectors.proofs.call.state_after.Tie as tie
+use Rattle.vectors.proofs.vector.state_before.Statement.{statement}
+use Rattle.vectors.proofs.vector.state_before.Tie as tie
 
 abbrev Inv-loop : tie.InvT-loop
-Inv-loop «record» bytes₀ i₀ bytes i = (i ≤ 248) × (length bytes ≡ 248)
+Inv-loop vector bytes₀ i₀ bytes i = (i ≤ 248) × (length bytes ≡ 248)
 
 abbrev μ-loop : tie.MeasureT-loop
-μ-loop «record» bytes₀ i₀ bytes i = 248 - i
+μ-loop vector bytes₀ i₀ bytes i = 248 - i
 
 loop-holds : tie.Need-loop-holds Inv-loop μ-loop
 loop-holds c = search needs
@@ -36,5 +36,5 @@ loop-again c = search needs
 returns : tie.Need-returns Inv-loop μ-loop
 returns c = search needs
 
-pub state-after-spec : {M : Type 1} → statement M
-state-after-spec = tie.close (tie.spec Inv-loop μ-loop loop-holds add-byte-at byte-at-requires array-write-bytes add-i loop-less loop-again returns)
+pub state-before-spec : {M : Type 1} → statement M
+state-before-spec = tie.close (tie.spec Inv-loop μ-loop loop-holds add-byte-at byte-at-requires array-write-bytes add-i loop-less loop-again returns)
