@@ -15,13 +15,13 @@ use Rattle.answers.specs.declared.Bussed.{Bussed}
 use Rattle.answers.specs.declared.Fell.{Fell}
 use Rattle.bus_calls.specs.BusCall.{lengthsOf, busState, busVram, busOam, busOf, Bused}
 use Rattle.engine.specs.Fall.{fallCallOf, fallSaid}
-use Rattle.bench.specs.Falls.{Measured, bit, fallInputOf, held, fallenOf, bussedOf, Held, steppedOf, afterSteps, measuredOf, Benched}
+use Rattle.bench.specs.Falls.{Measured, stepBit, stepFall, stepBus, afterFall, afterBus, Held, steppedOf, afterSteps, measuredOf, Benched}
 
 -- a bus call with the held input, as the loop's definition has it
 pub held-bus :
     (s : Cgb) (i : BusInput) (cartridge wram vram oam : List ℕ) (r : Bussed) (lastVram lastOam : List ℕ) →
-    i ≡ held → Bused s i cartridge wram vram oam r lastVram lastOam → Held s cartridge wram vram oam (r .state) lastVram lastOam
-unfolding bussedOf busOf
+    i ≡ stepBus → Bused s i cartridge wram vram oam r lastVram lastOam → Held s cartridge wram vram oam (r .state) lastVram lastOam
+unfolding afterBus busOf
 held-bus s i cartridge wram vram oam r lastVram lastOam input b =
     let n = lengthsOf cartridge wram vram oam in
     let state = ap (λ (x : Bussed). x .state) (b .result) ∙ ap (λ (j : BusInput). busState s j n) input in
@@ -41,41 +41,42 @@ module _ (cartridge wram steps : List ℕ) (start : Measured) where
     -- the fall of the byte at place i, from what the bytes before it left
     fallen :
         record { state = s; vram = vram; oam = oam } ≡ afterSteps cartridge wram steps start i → step ≡ getD steps i 0 →
-        input ≡ fallInputOf step i → Answers fellSays (fallCallOf s input) (fallSaid s input) fell →
-        record { state = fell .state; vram = vram; oam = oam } ≡ fallenOf i (getD steps i 0) (afterSteps cartridge wram steps start i)
-    unfolding fallenOf
+        input ≡ stepFall step i → Answers fellSays (fallCallOf s input) (fallSaid s input) fell →
+        record { state = fell .state; vram = vram; oam = oam } ≡ afterFall i (getD steps i 0) (afterSteps cartridge wram steps start i)
+    unfolding afterFall
     fallen before at asked answers =
-        let state = ap (λ (x : Fell). x .state) (answers .is) ∙ ap (λ (x : FallInput). fallCallOf s x .state) (asked ∙ ap (λ (x : ℕ). fallInputOf x i) at) in
+        let given = asked ∙ ap (λ (x : ℕ). stepFall x i) at in
+        let state = ap (λ (x : Fell). x .state) (answers .is) ∙ ap (λ (x : FallInput). fallCallOf s x .state) given in
         ap (λ (x : Cgb). record { state = x; vram = vram; oam = oam }) state
-        ∙ ap (λ (m : Measured). fallenOf i (getD steps i 0) m) before
+        ∙ ap (λ (m : Measured). afterFall i (getD steps i 0) m) before
 
     -- with a bus call behind it or without
     abbrev chosen : Bool → Measured
     chosen b =
-        cond b (bussedOf cartridge wram (fallenOf i (getD steps i 0) (afterSteps cartridge wram steps start i)))
-        (fallenOf i (getD steps i 0) (afterSteps cartridge wram steps start i))
+        cond b (afterBus cartridge wram (afterFall i (getD steps i 0) (afterSteps cartridge wram steps start i)))
+        (afterFall i (getD steps i 0) (afterSteps cartridge wram steps start i))
 
     pub without-bus :
         record { state = s; vram = vram; oam = oam } ≡ afterSteps cartridge wram steps start i → step ≡ getD steps i 0 →
-        input ≡ fallInputOf step i → Answers fellSays (fallCallOf s input) (fallSaid s input) fell → bit 64 step ≡ false →
+        input ≡ stepFall step i → Answers fellSays (fallCallOf s input) (fallSaid s input) fell → stepBit 64 step ≡ false →
         record { state = fell .state; vram = vram; oam = oam } ≡ afterSteps cartridge wram steps start (i + 1)
     unfolding afterSteps steppedOf
     without-bus before at asked answers none =
         fallen before at asked answers
-        ∙ sym (ap chosen (sym (ap (bit 64) at) ∙ none))
+        ∙ sym (ap chosen (sym (ap (stepBit 64) at) ∙ none))
         ∙ next i
 
     pub with-bus :
         (r : Cgb) (lastVram lastOam : List ℕ) →
         record { state = s; vram = vram; oam = oam } ≡ afterSteps cartridge wram steps start i → step ≡ getD steps i 0 →
-        input ≡ fallInputOf step i → Answers fellSays (fallCallOf s input) (fallSaid s input) fell → bit 64 step ≡ true →
+        input ≡ stepFall step i → Answers fellSays (fallCallOf s input) (fallSaid s input) fell → stepBit 64 step ≡ true →
         Held (fell .state) cartridge wram vram oam r lastVram lastOam →
         record { state = r; vram = lastVram; oam = lastOam } ≡ afterSteps cartridge wram steps start (i + 1)
     unfolding afterSteps steppedOf
     with-bus r lastVram lastOam before at asked answers some h =
         h .all
-        ∙ ap (bussedOf cartridge wram) (fallen before at asked answers)
-        ∙ sym (ap chosen (sym (ap (bit 64) at) ∙ some))
+        ∙ ap (afterBus cartridge wram) (fallen before at asked answers)
+        ∙ sym (ap chosen (sym (ap (stepBit 64) at) ∙ some))
         ∙ next i
 
 -- at the end of the steps the loop has left the whole outcome

@@ -18,46 +18,46 @@ pub record Measured : Type 0 where
   pub vram : List ℕ
   pub oam : List ℕ
 
-abbrev pub bit : ℕ → ℕ → Bool
-bit weight step = eqb (step / weight % 2) 1
+abbrev pub stepBit : ℕ → ℕ → Bool
+stepBit weight step = eqb (step / weight % 2) 1
 
 -- a step's byte: mode in bits 0 and 1, halted, IRQ latched, stopped, a bus owned by OAM DMA
-abbrev pub fallInputOf : ℕ → ℕ → FallInput
-fallInputOf step edge =
+abbrev pub stepFall : ℕ → ℕ → FallInput
+stepFall step edge =
     record {
       mode = step % 4;
-      halted = bit 4 step;
-      «irq_latched» = bit 8 step;
-      stopped = bit 16 step;
+      halted = stepBit 4 step;
+      «irq_latched» = stepBit 8 step;
+      stopped = stepBit 16 step;
       «master_edge» = edge;
-      «oam_owns_bus» = bit 32 step;
+      «oam_owns_bus» = stepBit 32 step;
     }
 
-abbrev pub held : BusInput
-held = record { hold = true; suspended = false; «oam_start_edge» = 0 }
+abbrev pub stepBus : BusInput
+stepBus = record { hold = true; suspended = false; «oam_start_edge» = 0 }
 
-unfoldable pub fallenOf : ℕ → ℕ → Measured → Measured
-fallenOf edge step m = record { state = fallCallOf (m .state) (fallInputOf step edge) .state; vram = m .vram; oam = m .oam }
+unfoldable pub afterFall : ℕ → ℕ → Measured → Measured
+afterFall edge step m = record { state = fallCallOf (m .state) (stepFall step edge) .state; vram = m .vram; oam = m .oam }
 
 -- a held bus call
-unfoldable pub bussedOf : List ℕ → List ℕ → Measured → Measured
-bussedOf cartridge wram m =
+unfoldable pub afterBus : List ℕ → List ℕ → Measured → Measured
+afterBus cartridge wram m =
     let n = lengthsOf cartridge wram (m .vram) (m .oam) in
     record {
-      state = busState (m .state) held n;
-      vram = busVram (m .state) held n cartridge wram (m .vram);
-      oam = busOam (m .state) held n cartridge wram (m .oam);
+      state = busState (m .state) stepBus n;
+      vram = busVram (m .state) stepBus n cartridge wram (m .vram);
+      oam = busOam (m .state) stepBus n cartridge wram (m .oam);
     }
 
 pub record Held (s : Cgb) (cartridge wram vram oam : List ℕ) (r : Cgb) (lastVram lastOam : List ℕ) : Type 0 where
   pub all :
       record { state = r; vram = lastVram; oam = lastOam } ≡
-      bussedOf cartridge wram (record { state = s; vram = vram; oam = oam })
+      afterBus cartridge wram (record { state = s; vram = vram; oam = oam })
 
 -- a fall for each byte, its edge the byte's place; where bit 6 is set a bus call follows
 unfoldable pub steppedOf : List ℕ → List ℕ → ℕ → ℕ → Measured → Measured
 steppedOf cartridge wram edge step m =
-    cond (bit 64 step) (bussedOf cartridge wram (fallenOf edge step m)) (fallenOf edge step m)
+    cond (stepBit 64 step) (afterBus cartridge wram (afterFall edge step m)) (afterFall edge step m)
 
 -- after the first n bytes of the steps
 unfoldable pub afterSteps : List ℕ → List ℕ → List ℕ → Measured → ℕ → Measured

@@ -1,6 +1,6 @@
 // What the measurements run (bench/): many calls on one state that is read once from its bytes and written back once, so
 // that the calls themselves are timed and not the codec.
-ghost use Rattle.bench.specs.Falls.{fallInputOf, held, Held, Benched};
+ghost use Rattle.bench.specs.Falls.{stepFall, stepBus, Held, Benched};
 ghost use mathlib.Core.Path.{_≡_};
 use bus::commit::BusInput;
 use console::Cgb;
@@ -8,7 +8,7 @@ use fall_edge::FallInput;
 
 // A step's byte: mode in bits 0 and 1, halted, IRQ latched, stopped, a bus owned by OAM DMA.
 fn fall_input(step: u8, edge: u64) -> FallInput
-    ensures { λ r. ⌜ r ≡ fallInputOf step edge ⌝ }
+    ensures { λ r. ⌜ r ≡ stepFall step edge ⌝ }
 {
     FallInput {
         mode: step % 4,
@@ -21,7 +21,7 @@ fn fall_input(step: u8, edge: u64) -> FallInput
 }
 
 fn bus_input() -> BusInput
-    ensures { λ r. ⌜ r ≡ held ⌝ }
+    ensures { λ r. ⌜ r ≡ stepBus ⌝ }
 {
     BusInput {
         hold: true,

@@ -11,7 +11,8 @@ use Rattle.bench.proofs.bench_falls.Statement.{statement}
 use Rattle.bench.proofs.bench_falls.Tie as tie
 
 abbrev Inv-loop : tie.InvT-loop
-Inv-loop bytes steps cartridge wram vram₀ oam₀ state₀ i₀ vram oam state i = (length vram ≡ length vram₀) × (length oam ≡ length oam₀) × (i ≤ length steps) ×
+Inv-loop bytes steps cartridge wram vram₀ oam₀ state₀ i₀ vram oam state i =
+    (length vram ≡ length vram₀) × (length oam ≡ length oam₀) × (i ≤ length steps) ×
     (record { state = state; vram = vram; oam = oam } ≡
     afterSteps cartridge wram steps (record { state = state₀; vram = vram₀; oam = oam₀ }) i)
 
@@ -44,11 +45,16 @@ loop-less c = search needs
 
 loop-again : tie.Need-loop-again Inv-loop μ-loop
 loop-again c =
-    let l = c .before .before .before .before .before .before .before .before .before .before .before .before .before .loop in (
+    let moved = c .before .before .before .before in
+    let tested = moved .before .before .before in
+    let fell = tested .before .before in
+    let asked = fell .before in
+    let l = asked .before .before .before .loop in (
       search needs,
       search needs,
       omega arith,
-      with-bus _ _ _ _ (l .i) (l .state) _ _ _ _ _ _ _ _ (l .inv .3) refl (c .before .before .before .before .before .before .before .before .before .before .fall-input .ensures) (c .before .before .before .before .before .before .before .before .before .vram-dma-fall-edge .ensures) (eq-eqb _ _ (c .before .before .before .before .before .before .before .if1 .taken)) (c .before .before .before .before .bus .ensures),
+      with-bus _ _ _ _ (l .i) (l .state) _ _ _ _ _ _ _ _ (l .inv .3) refl (asked .fall-input .ensures)
+          (fell .vram-dma-fall-edge .ensures) (eq-eqb _ _ (tested .if1 .taken)) (moved .bus .ensures),
     )
 
 loop-less-2 : tie.Need-loop-less-2 Inv-loop μ-loop
@@ -56,11 +62,14 @@ loop-less-2 c = search needs
 
 loop-again-2 : tie.Need-loop-again-2 Inv-loop μ-loop
 loop-again-2 c =
-    let l = c .before .before .before .before .before .before .loop in (
+    let fell = c .before .before in
+    let asked = fell .before in
+    let l = asked .before .before .before .loop in (
       l .inv .0,
       l .inv .1,
       omega arith,
-      without-bus _ _ _ _ (l .i) (l .state) _ _ _ _ _ (l .inv .3) refl (c .before .before .before .fall-input .ensures) (c .before .before .vram-dma-fall-edge .ensures) (ne-eqb _ _ (c .if1 .left)),
+      without-bus _ _ _ _ (l .i) (l .state) _ _ _ _ _ (l .inv .3) refl (asked .fall-input .ensures)
+          (fell .vram-dma-fall-edge .ensures) (ne-eqb _ _ (c .if1 .left)),
     )
 
 encode-requires : tie.Need-encode-requires Inv-loop μ-loop
@@ -73,7 +82,11 @@ same-length-2 : tie.Need-same-length-2 Inv-loop μ-loop
 same-length-2 c = search needs
 
 returns : tie.Need-returns Inv-loop μ-loop
-returns c = let l = c .before .before .loop in benched _ _ _ _ _ _ _ _ _ _ (l .state) (l .i) (c .before .before .before .before .decode .ensures) (l .inv .3) (omega arith) (c .encode .ensures)
+returns c =
+    let ended = c .before .before in
+    let l = ended .loop in
+    benched _ _ _ _ _ _ _ _ _ _ (l .state) (l .i) (ended .before .before .decode .ensures) (l .inv .3) (omega arith)
+    (c .encode .ensures)
 
 pub bench-falls-spec : {M : Type 1} → statement M
 bench-falls-spec =

@@ -17,7 +17,9 @@ same-length-2 : tie.Need-same-length-2
 same-length-2 c = search needs
 
 returns : tie.Need-returns
-returns c = held-bus _ _ _ _ _ _ _ _ _ (c .before .before .before .before .before .before .before .before .bus-input .ensures) (c .before .before .before .before .before .vram-dma-commit-bytes .ensures)
+returns c =
+    let called = c .before .before .before .before .before in
+    held-bus _ _ _ _ _ _ _ _ _ (called .before .before .before .bus-input .ensures) (called .vram-dma-commit-bytes .ensures)
 
 pub bus-spec : {M : Type 1} → statement M
 bus-spec = tie.close (tie.spec bus-input-requires vram-dma-commit-bytes-requires same-length same-length-2 returns)

@@ -68,4 +68,25 @@ returns-2 : tie.Need-returns-2 Inv-loop μ-loop
 returns-2 c = search needs
 
 pub replay-all-spec : {M : Type 1} → statement M
-replay-all-spec = tie.close (tie.spec Inv-loop μ-loop loop-holds slice-aggregate-read-full read-full-requires same-length same-length-2 same-length-3 same-length-4 returns replay-requires sub-turns loop-less loop-again same-length-5 same-length-6 same-length-7 same-length-8 returns-2)
+replay-all-spec =
+    tie.close
+    (tie.spec
+    Inv-loop
+    μ-loop
+    loop-holds
+    slice-aggregate-read-full
+    read-full-requires
+    same-length
+    same-length-2
+    same-length-3
+    same-length-4
+    returns
+    replay-requires
+    sub-turns
+    loop-less
+    loop-again
+    same-length-5
+    same-length-6
+    same-length-7
+    same-length-8
+    returns-2)
