@@ -199,28 +199,48 @@ fn with_bank(mut state: Cgb, bank: u8) -> Cgb {
     state
 }
 
-// Five of refusal 7's tests, in the paper's order, each with its good neighbour. (`seven_first` has the sixth.)
-fn states(state: Cgb) {
+fn quotas(state: Cgb) {
     say::label(b"quota 2: ");
     calls::tally(with_quota(state, 2));
     say::label(b"quota 3: ");
     calls::tally(with_quota(state, 3));
+}
+
+fn blocks(state: Cgb) {
     say::label(b"block 16: ");
     calls::tally(with_block(state, 16));
     say::label(b"block 17: ");
     calls::tally(with_block(state, 17));
+}
+
+fn lefts(state: Cgb) {
     say::label(b"left 2048: ");
     calls::tally(with_left(state, 2048));
     say::label(b"left 2049: ");
     calls::tally(with_left(state, 2049));
+}
+
+fn work_banks(state: Cgb) {
     say::label(b"FF70 7: ");
     calls::tally(with_svbk(state, 7));
     say::label(b"FF70 8: ");
     calls::tally(with_svbk(state, 8));
+}
+
+fn video_banks(state: Cgb) {
     say::label(b"bank 1: ");
     calls::tally(with_bank(state, 1));
     say::label(b"bank 2: ");
     calls::tally(with_bank(state, 2));
+}
+
+// Five of refusal 7's tests, in the paper's order, each with its good neighbour. (`seven_first` has the sixth.)
+fn states(state: Cgb) {
+    quotas(state);
+    blocks(state);
+    lefts(state);
+    work_banks(state);
+    video_banks(state);
 }
 
 // Left 0 in a mode other than Idle, with a slice of the wrong length at an address of no map.

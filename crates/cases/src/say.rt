@@ -166,10 +166,7 @@ pub fn bussed(answer: BusAnswer) {
     match answer {
         BusAnswer::Moved { count, setup_cell } => {
             decimal(count as u64);
-            if setup_cell {
-                text(b", set-up cell");
-            }
-            text(b"\n");
+            end(setup_cell, b", set-up cell");
         }
         BusAnswer::Refused(n) => refused(n),
     }
@@ -193,6 +190,22 @@ pub fn switched(answer: SwitchAnswer) {
     }
 }
 
+fn three(source: u16, dest: u16, remaining: u16) {
+    four_digits(source);
+    text(b" ");
+    four_digits(dest);
+    text(b" ");
+    decimal(remaining as u64);
+}
+
+// The rest of a line, where something is to be added.
+fn end(there: bool, what: &[u8]) {
+    if there {
+        text(what);
+    }
+    text(b"\n");
+}
+
 pub fn tally(answer: TallyAnswer) {
     match answer {
         TallyAnswer::Tally {
@@ -201,15 +214,8 @@ pub fn tally(answer: TallyAnswer) {
             remaining,
             escape_byte,
         } => {
-            four_digits(source);
-            text(b" ");
-            four_digits(dest);
-            text(b" ");
-            decimal(remaining as u64);
-            if escape_byte {
-                text(b" escape");
-            }
-            text(b"\n");
+            three(source, dest, remaining);
+            end(escape_byte, b" escape");
         }
         TallyAnswer::Refused(n) => refused(n),
     }
