@@ -10,6 +10,7 @@ use std::fs::File;
 use std::process::{Command, Stdio, exit};
 use std::time::{Duration, Instant};
 
+use cgb_vram_dma::entry::STATE_BYTES;
 use oracle::entry::Entry;
 use oracle::loops::Original;
 use port::Memory;
@@ -41,7 +42,7 @@ fn row(name: &str, calls: usize, goal: f64, mut port: impl FnMut(), mut original
 }
 
 /// Runs of steps, each from the start state.
-fn falls(name: &str, goal: f64, start: [u8; 248], steps: &[u8], each: usize, times: usize) {
+fn falls(name: &str, goal: f64, start: [u8; STATE_BYTES], steps: &[u8], each: usize, times: usize) {
     let mut original = Original::new();
     let mut memory = Memory::new();
     original.set_memory(&memory.cartridge, &memory.wram, &memory.vram, &memory.oam);
@@ -69,7 +70,7 @@ fn falls(name: &str, goal: f64, start: [u8; 248], steps: &[u8], each: usize, tim
 }
 
 /// The exported entry: the state, the call and the answer as bytes, read and written at every call, on both sides.
-fn entry(name: &str, goal: f64, start: [u8; 248], steps: &[u8], times: usize) {
+fn entry(name: &str, goal: f64, start: [u8; STATE_BYTES], steps: &[u8], times: usize) {
     let records: Vec<[u8; 16]> = steps
         .iter()
         .enumerate()

@@ -1,4 +1,6 @@
-//! The port: the loops of crates/bench and the exported entry of crates/c_api.
+//! The port: the loops of crates/bench and, by the wrapper's entry, the exported one of crates/c_api.
+use cgb_vram_dma::entry::{self, ANSWER_BYTES, CALL_BYTES, STATE_BYTES};
+use cgb_vram_dma::{CARTRIDGE_BYTES, OAM_BYTES, VRAM_BYTES, WRAM_BYTES};
 
 unsafe extern "C" {
     fn bench_falls(
@@ -14,19 +16,6 @@ unsafe extern "C" {
         oam: *mut u8,
         oam_length: usize,
     );
-    fn cgb_perform(
-        state: *mut u8,
-        call: *const u8,
-        answer: *mut u8,
-        cartridge: *const u8,
-        cartridge_length: usize,
-        wram: *mut u8,
-        wram_length: usize,
-        vram: *mut u8,
-        vram_length: usize,
-        oam: *mut u8,
-        oam_length: usize,
-    ) -> u8;
 }
 
 /// Lent memory of the right lengths.
@@ -41,11 +30,16 @@ pub struct Memory {
 impl Memory {
     pub fn new() -> Self {
         let filled = |n: usize| (0..n).map(|i| (i * 7 + i / 256) as u8).collect();
-        Self { cartridge: filled(40_960), wram: filled(32_768), vram: filled(16_384), oam: filled(160) }
+        Self {
+            cartridge: filled(CARTRIDGE_BYTES),
+            wram: filled(WRAM_BYTES),
+            vram: filled(VRAM_BYTES),
+            oam: filled(OAM_BYTES),
+        }
     }
 }
 
-pub fn falls(state: &mut [u8; 248], steps: &[u8], m: &mut Memory) {
+pub fn falls(state: &mut [u8; STATE_BYTES], steps: &[u8], m: &mut Memory) {
     unsafe {
         bench_falls(
             state.as_mut_ptr(),
@@ -63,21 +57,7 @@ pub fn falls(state: &mut [u8; 248], steps: &[u8], m: &mut Memory) {
     }
 }
 
-pub fn perform(state: &mut [u8; 248], call: &[u8; 16], m: &mut Memory) -> u8 {
-    let mut answer = [0u8; 24];
-    unsafe {
-        cgb_perform(
-            state.as_mut_ptr(),
-            call.as_ptr(),
-            answer.as_mut_ptr(),
-            m.cartridge.as_ptr(),
-            m.cartridge.len(),
-            m.wram.as_mut_ptr(),
-            m.wram.len(),
-            m.vram.as_mut_ptr(),
-            m.vram.len(),
-            m.oam.as_mut_ptr(),
-            m.oam.len(),
-        )
-    }
+pub fn perform(state: &mut [u8; STATE_BYTES], call: &[u8; CALL_BYTES], m: &mut Memory) -> u8 {
+    let lent = entry::Memory { cartridge: &m.cartridge, wram: &mut m.wram, vram: &mut m.vram, oam: &mut m.oam };
+    entry::perform(state, call, &mut [0; ANSWER_BYTES], lent)
 }

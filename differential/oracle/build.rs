@@ -54,17 +54,4 @@ fn main() {
         let table = format!("pub const PROBES: [(&str, u32, &str, bool); {}] = [\n{}];\n", probes.len(), rows.concat());
         fs::write(out.join("probes.rs"), table).unwrap();
     }
-
-    // The port's library, where it is at hand: the comparison links it.
-    println!("cargo:rerun-if-env-changed=PORT_LIB");
-    println!("cargo:rustc-check-cfg=cfg(port)");
-    if let Ok(folder) = env::var("PORT_LIB") {
-        let folder = PathBuf::from(folder).canonicalize().expect("PORT_LIB names no folder");
-        let library = folder.join("libc_api.a");
-        assert!(library.is_file(), "{} is missing: rt staticlib c_api", library.display());
-        println!("cargo:rerun-if-changed={}", library.display());
-        println!("cargo:rustc-link-search=native={}", folder.display());
-        println!("cargo:rustc-link-lib=static=c_api");
-        println!("cargo:rustc-cfg=port");
-    }
 }

@@ -2,29 +2,23 @@
 //! the library's entry (include/cgb_vram_dma.h has the layouts, docs/LIBRARY.md the table of calls): it gives the answer, or
 //! the refusal, and then neither the state nor lent memory has changed. No call panics.
 
-mod entry;
+pub mod entry;
 mod record;
 
+pub use entry::{CARTRIDGE_BYTES, Memory, OAM_BYTES, VRAM_BYTES, WRAM_BYTES};
 pub use record::{
     Arbitration, Claim, CutOutcome, Fall, Moved, Pair, Refusal, Status, SwitchInputs, Tally,
 };
 
-use entry::perform;
+use entry::{ANSWER_BYTES, STATE_BYTES};
 use record::{Answer, Record};
 
-/// The lengths that lent memory must have.
-pub const CARTRIDGE_BYTES: usize = 40_960;
-pub const WRAM_BYTES: usize = 32_768;
-pub const VRAM_BYTES: usize = 16_384;
-pub const OAM_BYTES: usize = 160;
-
-/// What a call lends: a slice of another length than the call wants gets refusal 2.
-pub struct Memory<'a> {
-    /// Addresses below 8000h, then A000h to BFFFh from index 8000h on.
-    pub cartridge: &'a [u8],
-    pub wram: &'a mut [u8],
-    pub vram: &'a mut [u8],
-    pub oam: &'a mut [u8],
+fn perform(state: &mut [u8; STATE_BYTES], call: Record, memory: Memory) -> Result<Answer, Refusal> {
+    let mut answer = [0; ANSWER_BYTES];
+    match Refusal::of(entry::perform(state, call.bytes(), &mut answer, memory)) {
+        None => Ok(Answer::new(answer)),
+        Some(refusal) => Err(refusal),
+    }
 }
 
 /// The state, as its 248 bytes (docs/STATE-LAYOUT.md).
@@ -32,7 +26,7 @@ pub struct Memory<'a> {
 pub struct Cgb([u8; Cgb::BYTES]);
 
 impl Cgb {
-    pub const BYTES: usize = 248;
+    pub const BYTES: usize = STATE_BYTES;
 
     pub fn power_on(compat: bool) -> Self {
         Self(entry::power_on(compat))

@@ -1,4 +1,5 @@
 //! A call's record, an answer's record (include/cgb_vram_dma.h) and what they stand for.
+use crate::entry::{ANSWER_BYTES, CALL_BYTES};
 
 /// Document 01's numbers.
 #[derive(Clone, Copy, Debug, PartialEq, Eq)]
@@ -119,11 +120,11 @@ pub struct Moved {
     pub set_up_cell: bool,
 }
 
-pub(crate) struct Record([u8; 16]);
+pub(crate) struct Record([u8; CALL_BYTES]);
 
 impl Record {
     pub fn of(kind: u8) -> Self {
-        let mut bytes = [0; 16];
+        let mut bytes = [0; CALL_BYTES];
         bytes[0] = kind;
         Self(bytes)
     }
@@ -143,17 +144,15 @@ impl Record {
         self.0[8..].copy_from_slice(&edge.to_le_bytes());
         self
     }
-    pub fn bytes(&self) -> &[u8; 16] {
+    pub fn bytes(&self) -> &[u8; CALL_BYTES] {
         &self.0
     }
 }
 
-pub(crate) struct Answer([u8; Answer::BYTES]);
+pub(crate) struct Answer([u8; ANSWER_BYTES]);
 
 impl Answer {
-    pub const BYTES: usize = 24;
-
-    pub fn new(bytes: [u8; Answer::BYTES]) -> Self {
+    pub fn new(bytes: [u8; ANSWER_BYTES]) -> Self {
         Self(bytes)
     }
     fn at(&self, at: usize) -> u16 {

@@ -1,22 +1,7 @@
 //! The exported entry as a C program calls it, with the bytes of include/cgb_vram_dma.h: what the typed wrapper cannot ask. A
 //! refused call leaves document 01's number and zeros in the answer, over whatever stood there, and all else as given.
-use cgb_vram_dma::{CARTRIDGE_BYTES, Cgb, OAM_BYTES, VRAM_BYTES, WRAM_BYTES};
-
-unsafe extern "C" {
-    fn cgb_perform(
-        state: *mut u8,
-        call: *const u8,
-        answer: *mut u8,
-        cartridge: *const u8,
-        cartridge_bytes: usize,
-        wram: *mut u8,
-        wram_bytes: usize,
-        vram: *mut u8,
-        vram_bytes: usize,
-        oam: *mut u8,
-        oam_bytes: usize,
-    ) -> u8;
-}
+use cgb_vram_dma::entry;
+use cgb_vram_dma::{CARTRIDGE_BYTES, Cgb, Memory, OAM_BYTES, VRAM_BYTES, WRAM_BYTES};
 
 #[derive(Clone, PartialEq)]
 struct Caller {
@@ -42,22 +27,9 @@ impl Caller {
         [&mut self.cartridge, &mut self.wram, &mut self.vram, &mut self.oam]
     }
     fn perform(&mut self, call: [u8; 16], answer: &mut [u8; 24]) -> u8 {
-        // SAFETY: each pointer comes from a borrow of the length that goes with it, and no two overlap.
-        unsafe {
-            cgb_perform(
-                self.state.as_mut_ptr(),
-                call.as_ptr(),
-                answer.as_mut_ptr(),
-                self.cartridge.as_ptr(),
-                self.cartridge.len(),
-                self.wram.as_mut_ptr(),
-                self.wram.len(),
-                self.vram.as_mut_ptr(),
-                self.vram.len(),
-                self.oam.as_mut_ptr(),
-                self.oam.len(),
-            )
-        }
+        let memory =
+            Memory { cartridge: &self.cartridge, wram: &mut self.wram, vram: &mut self.vram, oam: &mut self.oam };
+        entry::perform(&mut self.state, &call, answer, memory)
     }
     /// The call is refused with the number: the answer is that and zeros, all else as before.
     fn refuses(&mut self, call: [u8; 16], number: u8) {
@@ -148,4 +120,26 @@ fn a_performed_call_s_refusal_has_the_same_record() {
     assert_eq!(caller.perform(call(1, 0xFF4D, 1, 1), &mut answer), 0);
     assert_eq!(caller.perform(call(4, 0, 4, 0), &mut answer), 0);
     caller.refuses(call(4, 0, 4, 0), 11);
+}
+
+/// The header's sizes are those of `entry`.
+#[test]
+fn the_header_has_the_same_sizes() {
+    let header = include_str!("../../include/cgb_vram_dma.h");
+    let size = |name: &str| {
+        let line = header.lines().find_map(|line| line.strip_prefix(&format!("#define CGB_{name}_BYTES ")));
+        line.and_then(|rest| rest.split(' ').next()).and_then(|number| number.parse::<usize>().ok())
+    };
+    let sizes = [
+        ("STATE", entry::STATE_BYTES),
+        ("CALL", entry::CALL_BYTES),
+        ("ANSWER", entry::ANSWER_BYTES),
+        ("CARTRIDGE", CARTRIDGE_BYTES),
+        ("WRAM", WRAM_BYTES),
+        ("VRAM", VRAM_BYTES),
+        ("OAM", OAM_BYTES),
+    ];
+    for (name, bytes) in sizes {
+        assert_eq!(size(name), Some(bytes), "{name}");
+    }
 }

@@ -3,6 +3,9 @@
 //! the calls at arbitrary states. A refusal is checked for its number, for an answer of that number and zeros, and for
 //! state and memory as before. What the original has no call for, a record of another kind and bytes that no state has,
 //! is given to the port alone, now and then.
+use cgb_vram_dma::Memory;
+use cgb_vram_dma::entry;
+
 use crate::answer::{self, Answer};
 use crate::calls::{Call, Oracle, kind};
 use crate::finer;
@@ -11,23 +14,8 @@ use crate::memory;
 use crate::random::Random;
 use crate::vectors;
 
-unsafe extern "C" {
-    fn cgb_power_on(state: *mut u8, compat: u8);
-    #[allow(clippy::too_many_arguments)]
-    fn cgb_perform(
-        state: *mut u8,
-        call: *const u8,
-        answer: *mut u8,
-        cartridge: *const u8,
-        cartridge_length: usize,
-        wram: *mut u8,
-        wram_length: usize,
-        vram: *mut u8,
-        vram_length: usize,
-        oam: *mut u8,
-        oam_length: usize,
-    ) -> u8;
-}
+// The oracle's own layouts are held to the port's.
+const _: () = assert!(SIZE == entry::STATE_BYTES && answer::SIZE == entry::ANSWER_BYTES);
 
 const NAMES: [&str; 27] = [
     "", "write", "fall", "next pair", "switch", "LCD off", "escape drain", "blackout", "read", "bus", "arbitration",
@@ -51,7 +39,8 @@ struct Gave {
     answer: Answer,
 }
 
-const LENGTHS: [usize; 4] = [memory::CARTRIDGE, memory::WRAM, memory::VRAM, memory::OAM];
+const LENGTHS: [usize; 4] =
+    [entry::CARTRIDGE_BYTES, entry::WRAM_BYTES, entry::VRAM_BYTES, entry::OAM_BYTES];
 
 impl Port {
     fn new(r: &mut Random) -> Self {
@@ -61,31 +50,21 @@ impl Port {
         &self.memory[which][..LENGTHS[which]]
     }
     fn power_on(&self, compat: bool) -> [u8; SIZE] {
-        let mut state = [0; SIZE];
-        unsafe { cgb_power_on(state.as_mut_ptr(), compat as u8) };
-        state
+        entry::power_on(compat)
     }
     fn perform(&mut self, call: &Call, before: &[u8; SIZE]) -> Gave {
         let mut state = *before;
         // Whatever stood in the answer must not show in it.
         let mut answer = Answer([0xA5; answer::SIZE]);
-        let [cartridge, wram, vram, oam] = &mut self.memory;
         let n = call.lengths.map(|n| n as usize);
-        let result = unsafe {
-            cgb_perform(
-                state.as_mut_ptr(),
-                call.record.as_ptr(),
-                answer.0.as_mut_ptr(),
-                cartridge.as_ptr(),
-                n[0],
-                wram.as_mut_ptr(),
-                n[1],
-                vram.as_mut_ptr(),
-                n[2],
-                oam.as_mut_ptr(),
-                n[3],
-            )
+        let [cartridge, wram, vram, oam] = &mut self.memory;
+        let memory = Memory {
+            cartridge: &cartridge[..n[0]],
+            wram: &mut wram[..n[1]],
+            vram: &mut vram[..n[2]],
+            oam: &mut oam[..n[3]],
         };
+        let result = entry::perform(&mut state, &call.record, &mut answer.0, memory);
         Gave { result, state, answer }
     }
 }

@@ -10,7 +10,7 @@
 //!     MISSINGNO_SRC=.. cargo run --release -- stored < FILE
 //!     MISSINGNO_SRC=.. cargo run --release -- script SEED COUNT > SCRIPT
 //!     MISSINGNO_SRC=.. cargo run --release -- replay < SCRIPT
-//!     MISSINGNO_SRC=.. PORT_LIB=.. cargo run --release -- compare SEED COUNT [rising]
+//!     MISSINGNO_SRC=.. cargo run --release --features port -- compare SEED COUNT [rising]
 //!
 //! Built with BRANCHES=1 the run tells at its end which conditions of the original never came out one way.
 //!
@@ -20,7 +20,7 @@ mod aimed;
 mod answer;
 mod calls;
 mod cases;
-#[cfg(port)]
+#[cfg(feature = "port")]
 mod compare;
 pub mod entry;
 mod finer;
@@ -113,11 +113,11 @@ pub fn command() {
             replay::script(seed, count, std::io::stdout().lock()).expect("the script could not be written");
         }
         Some("sample") => sample::write_to(&mut std::io::stdout().lock()).expect("the script could not be written"),
-        #[cfg(port)]
+        #[cfg(feature = "port")]
         Some("compare") => compare::run(&words[1..], usage),
-        #[cfg(not(port))]
+        #[cfg(not(feature = "port"))]
         Some("compare") => {
-            eprintln!("compare: built without the port's library: set PORT_LIB to the folder of libc_api.a and build again");
+            eprintln!("compare: built without the port: rt staticlib c_api, and build again with --features port");
             std::process::exit(2);
         }
         _ => {
