@@ -4,7 +4,8 @@
 use std::collections::HashSet;
 use std::io::Write;
 
-use crate::calls::{Call, Oracle, kind};
+use crate::calls::{Call, Oracle};
+use crate::kind;
 use crate::layout::SIZE;
 use crate::vector::Vector;
 

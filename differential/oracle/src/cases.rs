@@ -3,7 +3,8 @@
 use std::io::Write;
 
 use crate::answer::Answer;
-use crate::calls::{Call, Oracle, kind};
+use crate::calls::{Call, Oracle};
+use crate::kind;
 use crate::layout::SIZE;
 use crate::vector::Vector;
 

@@ -7,8 +7,9 @@ use cgb_vram_dma::Memory;
 use cgb_vram_dma::entry;
 
 use crate::answer::{self, Answer};
-use crate::calls::{Call, Oracle, kind};
+use crate::calls::{Call, Oracle};
 use crate::finer;
+use crate::kind;
 use crate::layout::SIZE;
 use crate::memory;
 use crate::random::Random;
@@ -16,13 +17,6 @@ use crate::vectors;
 
 // The oracle's own layouts are held to the port's.
 const _: () = assert!(SIZE == entry::STATE_BYTES && answer::SIZE == entry::ANSWER_BYTES);
-
-const NAMES: [&str; 27] = [
-    "", "write", "fall", "next pair", "switch", "LCD off", "escape drain", "blackout", "read", "bus", "arbitration",
-    "write conflict", "wake intake", "instruction retired", "tally", "status", "claim", "park", "request standing",
-    "holds CPU", "seizes bus", "switch in progress", "divider active", "double speed", "steps per dot", "WRAM bank",
-    "SVBK",
-];
 
 /// The port's memory, each slice with a byte to spare for a length that is one long.
 struct Port {
@@ -69,11 +63,12 @@ impl Port {
     }
 }
 
-#[derive(Default)]
+const KINDS: usize = kind::NAMES.len();
+
 struct Report {
-    calls: [u64; 27],
-    refusals: [[u64; 15]; 27],
-    answers: [[u64; 3]; 27],
+    calls: [u64; KINDS],
+    refusals: [[u64; 256]; KINDS],
+    answers: [[u64; 3]; KINDS],
     deposits: u64,
     /// Given to the port alone: records of no call, and bytes that no state has.
     no_call: u64,
@@ -82,17 +77,29 @@ struct Report {
 }
 
 impl Report {
+    fn new() -> Self {
+        Self {
+            calls: [0; KINDS],
+            refusals: [[0; 256]; KINDS],
+            answers: [[0; 3]; KINDS],
+            deposits: 0,
+            no_call: 0,
+            no_state: 0,
+            differ: 0,
+        }
+    }
+
     fn print(&self, seed: u64) {
         let all: u64 = self.calls.iter().sum();
         println!("seed {seed}: {all} calls, {} differ", self.differ);
         println!("{:<20} {:>12}  first value 0, 1, 2 or more; refusals", "kind", "calls");
-        for k in 1..27 {
+        for k in 1..KINDS {
             let answers: Vec<String> = self.answers[k].iter().map(u64::to_string).collect();
-            let refused: Vec<String> = (1..15)
+            let refused: Vec<String> = (1..256)
                 .filter(|&n| self.refusals[k][n] > 0)
                 .map(|n| format!("{n}: {}", self.refusals[k][n]))
                 .collect();
-            println!("{:<20} {:>12}  {}; {}", NAMES[k], self.calls[k], answers.join(", "), refused.join(", "));
+            println!("{:<20} {:>12}  {}; {}", kind::NAMES[k], self.calls[k], answers.join(", "), refused.join(", "));
         }
         println!("deposits in OAM {}", self.deposits);
         println!("records of no call, 6: {}; bytes that no state has, 7: {}", self.no_call, self.no_state);
@@ -213,7 +220,7 @@ pub fn run(given: &[String], usage: &str) {
     // A second stream, so that a seed gives the same calls to both sides as ever.
     let mut declining = Random::new(!seed);
     let port = Port::new(&mut r);
-    let mut run = Run { oracle: Oracle::new(), port, report: Report::default(), rising: None };
+    let mut run = Run { oracle: Oracle::new(), port, report: Report::new(), rising: None };
     run.synchronise();
     let mut given = 0;
     while given < count {

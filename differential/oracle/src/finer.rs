@@ -3,7 +3,8 @@
 use std::collections::HashSet;
 use std::io::{BufWriter, Write};
 
-use crate::calls::{Call, Oracle, kind, unreached};
+use crate::calls::{Call, Oracle, unreached};
+use crate::kind;
 use crate::layout::SIZE;
 use crate::random::Random;
 use crate::vector::Vector;

@@ -24,6 +24,7 @@ mod cases;
 mod compare;
 pub mod entry;
 mod finer;
+mod kind;
 mod layout;
 pub mod loops;
 mod memory;

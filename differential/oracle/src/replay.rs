@@ -7,7 +7,8 @@ use missingno_gb::ppu::rendering::Mode;
 use missingno_gb::{Chassis, ConsoleShadow};
 
 use crate::Cgb;
-use crate::calls::{self, Call, kind};
+use crate::calls::{self, Call};
+use crate::kind;
 use crate::layout;
 use crate::random::Random;
 use crate::vectors;

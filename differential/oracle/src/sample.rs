@@ -2,7 +2,7 @@
 //! the long repetitions and the calls at the end, each record has junk in every bit that its kind ignores.
 use std::io::Write;
 
-use crate::calls::kind;
+use crate::kind;
 use crate::random::Random;
 use crate::vectors;
 

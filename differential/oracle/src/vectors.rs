@@ -3,7 +3,8 @@
 use std::collections::HashSet;
 use std::io::{BufWriter, Read, Write};
 
-use crate::calls::{Call, Oracle, kind};
+use crate::calls::{Call, Oracle};
+use crate::kind;
 use crate::layout::SIZE;
 use crate::random::Random;
 use crate::vector::{self, Vector};
