@@ -38,11 +38,25 @@ fn fill(memory: &mut [u8], which: u8, seed: u8) {
     }
 }
 
-pub fn fill_all(cartridge: &mut [u8], wram: &mut [u8], vram: &mut [u8], oam: &mut [u8], seed: u8) {
-    fill(cartridge, CARTRIDGE, seed);
-    fill(wram, WRAM, seed);
-    fill(vram, VRAM, seed);
-    fill(oam, OAM, seed);
+// Whether a call of this kind is lent memory: a write, a read, a bus call. For others it is neither filled nor looked at.
+fn is_lent(kind: u8) -> bool {
+    (kind == 1) | (kind == 8) | (kind == 9)
+}
+
+pub fn fill_all(
+    cartridge: &mut [u8],
+    wram: &mut [u8],
+    vram: &mut [u8],
+    oam: &mut [u8],
+    vector: &[u8; 568],
+) {
+    if !is_lent(vector[0]) {
+        return;
+    }
+    fill(cartridge, CARTRIDGE, vector[1]);
+    fill(wram, WRAM, vector[1]);
+    fill(vram, VRAM, vector[1]);
+    fill(oam, OAM, vector[1]);
 }
 
 fn unchanged(memory: &[u8], which: u8, seed: u8) -> bool {
@@ -100,6 +114,9 @@ pub fn all_as_named(
     oam: &mut [u8],
     vector: &[u8; 568],
 ) -> bool {
+    if !is_lent(vector[0]) {
+        return true;
+    }
     let read = unchanged(cartridge, CARTRIDGE, vector[1]);
     let written = as_named(wram, WRAM, vector);
     let stored = as_named(vram, VRAM, vector);

@@ -89,7 +89,7 @@ pub fn agrees(
     if vector[0] == 0 {
         return power_on_agrees(vector);
     }
-    lent::fill_all(cartridge, wram, vram, oam, vector[1]);
+    lent::fill_all(cartridge, wram, vram, oam, vector);
     let mut state = state_before(vector);
     let answered = performed(vector, &mut state, cartridge, wram, vram, oam);
     let kept = lent::all_as_named(cartridge, wram, vram, oam, vector);
