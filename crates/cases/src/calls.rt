@@ -36,6 +36,19 @@ pub fn set_in_the_dark(state: Cgb, address: u16, value: u8) -> Cgb {
     )
 }
 
+// A write with the LCD on, with a line for its answer.
+pub fn written(state: Cgb, address: u16, value: u8) -> Cgb {
+    let mut wram = [0u8; 32768];
+    let input = WriteInput {
+        value: value,
+        lcd_on: true,
+    };
+    let w = bus_calls::access::write(state, &mut wram, address, input);
+    let answer = w.answer;
+    say::done(answer);
+    w.state
+}
+
 pub fn read(state: Cgb, address: u16) {
     let wram = [0u8; 32768];
     say::byte(bus_calls::access::read(state, &wram, address));
