@@ -43,8 +43,8 @@ fn answer_agrees(vector: &[u8; 568], result: u8, answer: &[u8; 24]) -> bool {
     (result == answer[0]) & check::same(&bytes[280..304], answer)
 }
 
-// Whether the entry's answer, from slices of the vector's lengths, is the original's; it leaves the state.
-fn performed(
+// Whether the entry's answer is the original's; it leaves the state.
+fn answered(
     vector: &[u8; 568],
     state: &mut [u8; 248],
     cartridge: &[u8],
@@ -53,22 +53,45 @@ fn performed(
     oam: &mut [u8],
 ) -> bool {
     let record = call(vector);
-    let c = lent::length(vector, lent::CARTRIDGE, cartridge.len());
-    let w = lent::length(vector, lent::WRAM, wram.len());
-    let v = lent::length(vector, lent::VRAM, vram.len());
-    let o = lent::length(vector, lent::OAM, oam.len());
     // What stood in the answer must not show in it.
     let mut answer = [0xA5u8; 24];
-    let result = c_api::cgb_perform(
+    let result = c_api::cgb_perform(state, &record, &mut answer, cartridge, wram, vram, oam);
+    answer_agrees(vector, result, &answer)
+}
+
+// Its targets have the vector's lengths.
+fn with_targets(
+    vector: &[u8; 568],
+    state: &mut [u8; 248],
+    cartridge: &[u8],
+    wram: &mut [u8],
+    vram: &mut [u8],
+    oam: &mut [u8],
+) -> bool {
+    let v = lent::length(vector, lent::VRAM, vram.len());
+    let o = lent::length(vector, lent::OAM, oam.len());
+    answered(
+        vector,
         state,
-        &record,
-        &mut answer,
-        &cartridge[0..c],
-        &mut wram[0..w],
+        cartridge,
+        wram,
         &mut vram[0..v],
         &mut oam[0..o],
-    );
-    answer_agrees(vector, result, &answer)
+    )
+}
+
+// And its sources.
+fn performed(
+    vector: &[u8; 568],
+    state: &mut [u8; 248],
+    cartridge: &[u8],
+    wram: &mut [u8],
+    vram: &mut [u8],
+    oam: &mut [u8],
+) -> bool {
+    let c = lent::length(vector, lent::CARTRIDGE, cartridge.len());
+    let w = lent::length(vector, lent::WRAM, wram.len());
+    with_targets(vector, state, &cartridge[0..c], &mut wram[0..w], vram, oam)
 }
 
 // Power-on, with or without compat: the state before is not looked at.
@@ -91,7 +114,7 @@ pub fn agrees(
     }
     lent::fill_all(cartridge, wram, vram, oam, vector);
     let mut state = state_before(vector);
-    let answered = performed(vector, &mut state, cartridge, wram, vram, oam);
+    let same = performed(vector, &mut state, cartridge, wram, vram, oam);
     let kept = lent::all_as_named(cartridge, wram, vram, oam, vector);
-    answered & state_agrees(vector, &state) & kept
+    same & state_agrees(vector, &state) & kept
 }
