@@ -18,6 +18,37 @@ use crate::vectors;
 // The oracle's own layouts are held to the port's.
 const _: () = assert!(SIZE == entry::STATE_BYTES && answer::SIZE == entry::ANSWER_BYTES);
 
+/// Kind 0 is none.
+const NAMES: [&str; kind::LAST as usize + 1] = [
+    "",
+    "write",
+    "fall",
+    "next pair",
+    "switch",
+    "LCD off",
+    "escape drain",
+    "blackout",
+    "read",
+    "bus",
+    "arbitration",
+    "write conflict",
+    "wake intake",
+    "instruction retired",
+    "tally",
+    "status",
+    "claim",
+    "park",
+    "request standing",
+    "holds CPU",
+    "seizes bus",
+    "switch in progress",
+    "divider active",
+    "double speed",
+    "steps per dot",
+    "WRAM bank",
+    "SVBK",
+];
+
 /// The port's memory, each slice with a byte to spare for a length that is one long.
 struct Port {
     memory: [Vec<u8>; 4],
@@ -63,7 +94,7 @@ impl Port {
     }
 }
 
-const KINDS: usize = kind::NAMES.len();
+const KINDS: usize = NAMES.len();
 
 struct Report {
     calls: [u64; KINDS],
@@ -99,7 +130,7 @@ impl Report {
                 .filter(|&n| self.refusals[k][n] > 0)
                 .map(|n| format!("{n}: {}", self.refusals[k][n]))
                 .collect();
-            println!("{:<20} {:>12}  {}; {}", kind::NAMES[k], self.calls[k], answers.join(", "), refused.join(", "));
+            println!("{:<20} {:>12}  {}; {}", NAMES[k], self.calls[k], answers.join(", "), refused.join(", "));
         }
         println!("deposits in OAM {}", self.deposits);
         println!("records of no call, 6: {}; bytes that no state has, 7: {}", self.no_call, self.no_state);

@@ -27,34 +27,3 @@ pub const STEPS_PER_DOT: u8 = 24;
 pub const WRAM_BANK: u8 = 25;
 pub const SVBK: u8 = 26;
 pub const LAST: u8 = 26;
-
-/// What the report calls them; kind 0 is none.
-pub const NAMES: [&str; LAST as usize + 1] = [
-    "",
-    "write",
-    "fall",
-    "next pair",
-    "switch",
-    "LCD off",
-    "escape drain",
-    "blackout",
-    "read",
-    "bus",
-    "arbitration",
-    "write conflict",
-    "wake intake",
-    "instruction retired",
-    "tally",
-    "status",
-    "claim",
-    "park",
-    "request standing",
-    "holds CPU",
-    "seizes bus",
-    "switch in progress",
-    "divider active",
-    "double speed",
-    "steps per dot",
-    "WRAM bank",
-    "SVBK",
-];
