@@ -319,17 +319,23 @@ pub fn select(given: &[String], usage: &str) {
     eprintln!("{} of {} vectors selected", seen.len(), w.count);
 }
 
-/// Stored vectors, given to the original again: a file that only the oracle wrote has none that differs.
+/// Stored vectors, given to the original again: a file that only the oracle wrote has none that differs, and has every kind.
 pub fn stored(input: &mut dyn Read) {
     let mut oracle = Oracle::new();
     let (mut count, mut differ) = (0u64, 0u64);
+    let mut kinds = HashSet::new();
     let mut bytes = [0u8; vector::BYTES];
     while input.read_exact(&mut bytes).is_ok() {
         count += 1;
         differ += (Vector::again(&mut oracle, &bytes).bytes() != bytes) as u64;
+        kinds.insert(bytes[0]);
     }
+    let missing: Vec<u8> = (0..=kind::LAST).filter(|k| !kinds.contains(k)).collect();
     println!("{count} stored vectors, {differ} differ from the original");
-    if differ > 0 {
+    if !missing.is_empty() {
+        println!("no stored vector of kind {missing:?}");
+    }
+    if differ > 0 || !missing.is_empty() {
         std::process::exit(1);
     }
 }
