@@ -248,7 +248,7 @@ function kind_spec(    i, k, last, names, seen) {
     print "-- The kinds of the calls that are lent no memory: byte 0 of a record. Written by tools/calls from calls.txt." > to
     print "use Prim.Native.Nat.{ℕ}" > to
     print "use mathlib.Core.List.{List, [], _∷_}" > to
-    print "use Rattle.codec.specs.Number.{byteAt}" > to
+    print "use Rattle.arithmetic.specs.Number.{byteAt}" > to
     print "use Rattle.table.specs.Table.{Entry, _⟼_, look}" > to
     print "use Rattle.call.specs.declared.PlainCall.the-variants as plain" > to
     print "use Rattle.call.specs.declared.query.Query.the-variants as query" > to

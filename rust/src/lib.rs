@@ -3,6 +3,8 @@
 //! the refusal, and then neither the state nor lent memory has changed. No call panics.
 
 pub mod entry;
+pub mod kind;
+mod query;
 mod record;
 
 pub use entry::{CARTRIDGE_BYTES, Memory, OAM_BYTES, VRAM_BYTES, WRAM_BYTES};

@@ -3,6 +3,11 @@
 ghost use mathlib.Core.Path.{_≡_};
 ghost use Rattle.transfer.specs.Questions.{writeAddress};
 ghost use Rattle.transfer.specs.Pair.{leftIf, cursorAfter, blockAfter, arbAfter, advancedOf};
+use arithmetic::pick::pick16;
+use arithmetic::step::less_one;
+use arithmetic::step::less_one_if;
+use arithmetic::step::overflowing_add16;
+use arithmetic::step::saturating_sub16;
 use console::vram_dma::HaltArbiter;
 use console::vram_dma::HblankBlock;
 use console::vram_dma::OamContention;
@@ -11,11 +16,6 @@ use console::vram_dma::TransferMode;
 use console::vram_dma::VramDma;
 use console::vram_dma::pick_mode;
 use countdown::Countdown;
-use countdown::pick::pick16;
-use countdown::step::less_one;
-use countdown::step::less_one_if;
-use countdown::step::overflowing_add16;
-use countdown::step::saturating_sub16;
 
 // The VRAM address that the next byte lands on.
 pub fn write_address(c: TransferCursor) -> u16

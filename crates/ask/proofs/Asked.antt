@@ -3,7 +3,7 @@
 use mathlib.Core.Path.{_≡_, refl}
 use Rattle.console.specs.declared.Cgb.{Cgb}
 use Rattle.answers.specs.Answers.{saying, stateRefusal, tallySays, statusSays, claimSays, flagSays, byteSays}
-use Rattle.queries.specs.Query.{tallyOf, statusOf, claimOf, flagOf, byteOf}
+use Rattle.engine.specs.Calls.{tallyCallOf, statusCallOf, claimCallOf, flagOf, byteOf}
 use Rattle.answers.specs.declared.TallyAnswer.the-variants as tally
 use Rattle.answers.specs.declared.StatusAnswer.the-variants as status
 use Rattle.answers.specs.declared.ClaimAnswer.the-variants as claim
@@ -16,7 +16,7 @@ use Rattle.ask.specs.Ask.{askedOf}
 
 module _ (s : Cgb) where
   pub asked-said : (q : Query) → askedOf s q ≡ saying (stateRefusal s) (askedOf s q .values)
-  unfolding askedOf tallyOf statusOf claimOf flagOf byteOf
+  unfolding askedOf tallyCallOf statusCallOf claimCallOf flagOf byteOf
   asked-said query.Tally = says-own _ _ _ (says-number tallySays tally.Refused (stateRefusal s) _ _ refl (λ n. refl))
   asked-said query.Status = says-own _ _ _ (says-number statusSays status.Refused (stateRefusal s) _ _ refl (λ n. refl))
   asked-said query.Claim = says-own _ _ _ (says-number claimSays claim.Refused (stateRefusal s) _ _ refl (λ n. refl))

@@ -1,19 +1,19 @@
 -- What each query says, by the definition that its contract cites. Written by tools/calls from calls.txt.
 use Rattle.console.specs.declared.Cgb.{Cgb}
 use Rattle.answers.specs.Answers.{Said, tallySays, statusSays, claimSays, flagSays, byteSays}
-use Rattle.queries.specs.Query.{tallyOf, statusOf, claimOf, flagOf, byteOf, parkWaits, requestStands, holdsCpu, seizesBus}
-use Rattle.queries.specs.Query.{switchInProgress, dividerRuns, atDoubleSpeed, cpuSteps, bankSelected, svbkWritten}
+use Rattle.engine.specs.Calls.{tallyCallOf, statusCallOf, claimCallOf, flagOf, byteOf, parkWaits, requestStands, cpuHeld, busSeized}
+use Rattle.engine.specs.Calls.{switchInProgress, dividerRuns, atDoubleSpeed, cpuSteps, bankSelected, svbkWritten}
 use Rattle.call.specs.declared.query.Query.{Query}
 use Rattle.call.specs.declared.query.Query.the-variants as query
 
 unfoldable pub askedOf : Cgb → Query → Said
-askedOf s query.Tally = tallySays (tallyOf s)
-askedOf s query.Status = statusSays (statusOf s)
-askedOf s query.Claim = claimSays (claimOf s)
+askedOf s query.Tally = tallySays (tallyCallOf s)
+askedOf s query.Status = statusSays (statusCallOf s)
+askedOf s query.Claim = claimSays (claimCallOf s)
 askedOf s query.ParkWaits = flagSays (flagOf s (parkWaits s))
 askedOf s query.RequestStanding = flagSays (flagOf s (requestStands s))
-askedOf s query.HoldsCpu = flagSays (flagOf s (holdsCpu s))
-askedOf s query.SeizesBus = flagSays (flagOf s (seizesBus s))
+askedOf s query.HoldsCpu = flagSays (flagOf s (cpuHeld s))
+askedOf s query.SeizesBus = flagSays (flagOf s (busSeized s))
 askedOf s query.SwitchInProgress = flagSays (flagOf s (switchInProgress s))
 askedOf s query.DividerActive = flagSays (flagOf s (dividerRuns s))
 askedOf s query.DoubleSpeed = flagSays (flagOf s (atDoubleSpeed s))

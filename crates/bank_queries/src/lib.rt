@@ -12,7 +12,7 @@ pub fn wram_bank(state: Cgb) -> ByteAnswer
     if state.unreached() {
         return ByteAnswer::Refused(refusal::STATE);
     }
-    ByteAnswer::Byte(registers::wram::wram_bank(state.svbk))
+    ByteAnswer::Byte(memory::wram::wram_bank(state.svbk))
 }
 
 // SVBK as written.

@@ -9,22 +9,21 @@ use Rattle.codec.specs.Codec.{encodeOf, decodeOf}
 use Rattle.codec.specs.declared.Decoded.{Decoded}
 use Rattle.console.specs.declared.Cgb.{Cgb}
 use Rattle.bus.specs.declared.commit.BusInput.{BusInput}
-use Rattle.fall_edge.specs.declared.FallInput.{FallInput}
+use Rattle.fall_stages.specs.declared.FallInput.{FallInput}
 use Rattle.answers.specs.Answers.{Answers, fellSays}
-use Rattle.answers.specs.declared.Bussed.{Bussed}
+use Rattle.answers.specs.declared.BusOutcome.{BusOutcome}
 use Rattle.answers.specs.declared.Fell.{Fell}
-use Rattle.bus_calls.specs.BusCall.{lengthsOf, busState, busVram, busOam, busOf, Bused}
-use Rattle.engine.specs.Fall.{fallCallOf, fallSaid}
+use Rattle.engine.specs.Calls.{fallCallOf, fallSaid, lengthsOf, AnswersBus, busState, busVram, busOam, busOf}
 use Rattle.bench.specs.Falls.{Measured, stepBit, stepFall, stepBus, afterFall, afterBus, Held, steppedOf, afterSteps, measuredOf, Benched}
 
 -- a bus call with the held input, as the loop's definition has it
 pub held-bus :
-    (s : Cgb) (i : BusInput) (cartridge wram vram oam : List ℕ) (r : Bussed) (lastVram lastOam : List ℕ) →
-    i ≡ stepBus → Bused s i cartridge wram vram oam r lastVram lastOam → Held s cartridge wram vram oam (r .state) lastVram lastOam
+    (s : Cgb) (i : BusInput) (cartridge wram vram oam : List ℕ) (r : BusOutcome) (lastVram lastOam : List ℕ) →
+    i ≡ stepBus → AnswersBus s i cartridge wram vram oam r lastVram lastOam → Held s cartridge wram vram oam (r .state) lastVram lastOam
 unfolding afterBus busOf
 held-bus s i cartridge wram vram oam r lastVram lastOam input b =
     let n = lengthsOf cartridge wram vram oam in
-    let state = ap (λ (x : Bussed). x .state) (b .result) ∙ ap (λ (j : BusInput). busState s j n) input in
+    let state = ap (λ (x : BusOutcome). x .state) (b .result) ∙ ap (λ (j : BusInput). busState s j n) input in
     let stored = b .stored ∙ ap (λ (j : BusInput). busVram s j n cartridge wram vram) input in
     let deposit = b .deposit ∙ ap (λ (j : BusInput). busOam s j n cartridge wram oam) input in
     record { all = λ k. record { state = state k; vram = stored k; oam = deposit k } }

@@ -8,9 +8,8 @@ use lib.ListN.{length, getD}
 use Rattle.codec.specs.Codec.{encodeOf, decodeOf}
 use Rattle.console.specs.declared.Cgb.{Cgb}
 use Rattle.bus.specs.declared.commit.BusInput.{BusInput}
-use Rattle.fall_edge.specs.declared.FallInput.{FallInput}
-use Rattle.bus_calls.specs.BusCall.{lengthsOf, busState, busVram, busOam}
-use Rattle.engine.specs.Fall.{fallCallOf}
+use Rattle.fall_stages.specs.declared.FallInput.{FallInput}
+use Rattle.engine.specs.Calls.{fallCallOf, lengthsOf, busState, busVram, busOam}
 
 -- the state and the memory that bus calls write
 pub record Measured : Type 0 where

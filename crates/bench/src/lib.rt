@@ -35,14 +35,7 @@ fn bus(state: Cgb, cartridge: &[u8], wram: &[u8], vram: &mut [u8], oam: &mut [u8
     ensures { λ r. ⌜ Held state (now (cartridge .entry)) (now (wram .entry)) (now (vram .entry)) (now (oam .entry))
         r (now (vram .exit)) (now (oam .exit)) ⌝ }
 {
-    let bussed = bus_calls::bus_call::vram_dma_commit_bytes(
-        state,
-        bus_input(),
-        cartridge,
-        wram,
-        vram,
-        oam,
-    );
+    let bussed = engine::vram_dma_commit_bytes(state, bus_input(), cartridge, wram, vram, oam);
     bussed.state
 }
 
@@ -66,7 +59,7 @@ pub extern "C" fn bench_falls(
         let step = steps[i];
         let input = fall_input(step, i as u64);
         i += 1;
-        let fell = engine::fall::vram_dma_fall_edge(state, input);
+        let fell = engine::vram_dma_fall_edge(state, input);
         state = fell.state;
         if step / 64 % 2 == 1 {
             state = bus(state, cartridge, wram, vram, oam);

@@ -3,11 +3,11 @@
 ghost use mathlib.Core.Path.{_≡_};
 ghost use Rattle.blackout.specs.Blackout.{relockEdges, blackoutActive, dividerActive, latencyAfterDrain, latencyAfterWake, drainedOf, wokenOf};
 ghost use Rattle.console.specs.Set.{withSpeedSwitchBlackout, withSpeedSwitchWakeLatency};
+use arithmetic::pick::pick32;
+use arithmetic::step::less_one_if;
+use arithmetic::step::saturating_sub32;
 use console::Cgb;
 use console::WakeLatency;
-use countdown::pick::pick32;
-use countdown::step::less_one_if;
-use countdown::step::saturating_sub32;
 
 // A flag, with the state after.
 pub struct Flagged {
@@ -45,27 +45,8 @@ fn latency_after_drain(ended: bool, latency: WakeLatency) -> WakeLatency
 fn with_latency(s: Cgb, blackout: u32, latency: WakeLatency) -> Cgb
     ensures { λ r. ⌜ r ≡ withSpeedSwitchBlackout blackout (withSpeedSwitchWakeLatency latency s) ⌝ }
 {
-    let vram_dma = s.vram_dma;
-    let extra_oam = s.extra_oam;
-    let vram = s.vram;
-    let console_state = s.console_state;
-    Cgb {
-        svbk: s.svbk,
-        key1_armed: s.key1_armed,
-        double_speed: s.double_speed,
-        dmg_compat: s.dmg_compat,
-        vram_dma: vram_dma,
-        speed_switch_blackout: blackout,
-        speed_switch_wake_latency: latency,
-        switch_relock_debit: s.switch_relock_debit,
-        ff72: s.ff72,
-        ff73: s.ff73,
-        ff74: s.ff74,
-        ff75: s.ff75,
-        extra_oam: extra_oam,
-        vram: vram,
-        console_state: console_state,
-    }
+    let woken = rebuild::with_speed_switch_wake_latency(s, latency);
+    rebuild::with_speed_switch_blackout(woken, blackout)
 }
 
 // The flag: the blackout is over.

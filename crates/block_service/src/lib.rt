@@ -65,7 +65,7 @@ fn step_readiness(d: VramDma, double_speed: bool) -> VramDma
 fn count_seizure(d: VramDma) -> VramDma
     ensures { λ r. ⌜ r ≡ seizureOf d ⌝ }
 {
-    let seizes = transfer::seizes_bus(d);
+    let seizes = dma_status::seizes_bus(d);
     let block = hblank_block::count_seizure(d.block, seizes);
     rebuild::with_dma_block(d, block)
 }

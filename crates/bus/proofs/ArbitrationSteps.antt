@@ -85,5 +85,5 @@ arbitration-steps double i d =
           );
       keeps-contended = when-contends i d double;
       keeps-oam = refl;
-      marks = record { pend = refl; from-arm = refl; granted = refl; armed = refl; taken = refl };
+      marks = record { pend = refl; from-arm = refl; granted = refl; strobe = refl; taken = refl };
     }

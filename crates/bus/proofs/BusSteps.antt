@@ -115,7 +115,7 @@ marks-kept d e k =
       pend = then .pend ∙ k .pend;
       from-arm = then .from-arm ∙ k .from-arm;
       granted = then .granted ∙ k .granted;
-      armed = then .armed ∙ k .armed;
+      strobe = then .strobe ∙ k .strobe;
       taken = then .taken ∙ k .taken;
     }
 
@@ -175,4 +175,4 @@ module _ (i : BusInput) (d : VramDma) where
       }
     where
       cells-marks : (e : VramDma) (cells : Countdown) → KeepsMarks d e → KeepsMarks d (withCells cells e)
-      cells-marks e cells k = record { pend = k .pend; from-arm = k .from-arm; granted = k .granted; armed = k .armed; taken = k .taken }
+      cells-marks e cells k = record { pend = k .pend; from-arm = k .from-arm; granted = k .granted; strobe = k .strobe; taken = k .taken }

@@ -7,7 +7,7 @@ use mathlib.Core.List.{List}
 use lib.Dec.{ltb}
 use lib.ListN.{getD}
 use borrow.Author.Tests.{lt-ltb, le-ltb, le-leb, lt-leb}
-use Rattle.registers.specs.Map.{bankedIndex}
+use Rattle.memory.specs.Wram.{bankedIndex}
 use Rattle.bus.specs.MemorySteps.{ReadingOrder, Stored}
 use Rattle.bus.specs.Source.{sourceByte}
 use Rattle.bus.specs.Store.{oamWith}

@@ -5,7 +5,7 @@ use mathlib.Core.Bool.{cond}
 use mathlib.Core.List.{List}
 use lib.Dec.{ltb}
 use lib.ListN.{getD}
-use Rattle.registers.specs.Map.{bankedIndex}
+use Rattle.memory.specs.Wram.{bankedIndex}
 
 -- the byte at an address, where 8000h–9FFFh gives `video`; storage is the "cartridge slice, index = address below 8000h,
 -- address − 2000h from A000h to BFFFh"

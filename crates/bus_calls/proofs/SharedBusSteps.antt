@@ -16,7 +16,7 @@ use Rattle.bus.specs.Arbitration.{arbitratedOf}
 use Rattle.bus.specs.declared.arbitration.Arbitration.{Arbitration}
 use Rattle.bus.specs.declared.arbitration.Arbitration.the-variants as bus
 use Rattle.bus.specs.declared.arbitration.ArbitrationInput.{ArbitrationInput}
-use Rattle.bus.proofs.Steps.{arbitration-steps}
+use Rattle.bus.proofs.ArbitrationSteps.{arbitration-steps}
 use Rattle.answers.specs.Answers.{stateRefusal}
 use Rattle.answers.specs.declared.ArbitrationAnswer.{ArbitrationAnswer}
 use Rattle.answers.specs.declared.ArbitrationAnswer.the-variants as arbitration

@@ -8,7 +8,7 @@ use Rattle.console.specs.Reached.{unreached}
 use Rattle.console.specs.Set.{withVramDma, withDmaOam}
 use Rattle.console.specs.declared.Cgb.{Cgb}
 use Rattle.transfer.specs.QuestionSteps.{Conflicts}
-use Rattle.bus.specs.Steps.{Contends, Stalls}
+use Rattle.bus.specs.ArbitrationSteps.{Contends, Stalls}
 use Rattle.bus.specs.declared.arbitration.ArbitrationInput.{ArbitrationInput}
 use Rattle.bus_calls.specs.Bus.{arbitrationCallOf, conflictCallOf}
 use Rattle.answers.specs.declared.ArbitrationAnswer.the-variants.{Clear, Contended, Stall}

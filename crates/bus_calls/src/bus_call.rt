@@ -7,7 +7,6 @@ use bus::commit::Banks;
 use bus::commit::BusInput;
 use console::Cgb;
 use console::refusal;
-use console::same;
 use transfer::pair::BytePair;
 
 fn refused(state: Cgb, number: u8) -> BusOutcome
@@ -17,7 +16,7 @@ fn refused(state: Cgb, number: u8) -> BusOutcome
         answer: BusAnswer::Refused(number),
         pairs: [BytePair { source: 0, dest: 0 }; 2],
         bytes: [0u8; 2],
-        state: same::cgb(state),
+        state: rebuild::cgb(state),
     }
 }
 
@@ -52,10 +51,10 @@ pub fn vram_dma_commit_bytes(
         svbk: state.svbk,
         vram: state.vram.selected,
     };
-    let run = bus::commit::commit_bytes(state.vram_dma, banks, input, cartridge, wram, vram, oam);
+    let run = bus_commit::commit_bytes(state.vram_dma, banks, input, cartridge, wram, vram, oam);
     let pairs = run.pairs;
     let bytes = run.bytes;
-    let after = same::cgb_with(state, run.dma);
+    let after = rebuild::with_vram_dma(state, run.dma);
     BusOutcome {
         answer: BusAnswer::Moved {
             count: run.count,

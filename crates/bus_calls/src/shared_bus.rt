@@ -31,7 +31,7 @@ pub fn vram_dma_arbitrate_oam(state: Cgb, input: ArbitrationInput) -> Arbitrated
             state: state,
         };
     }
-    let arbitrated = bus::arbitration::arbitrate_oam_bus(state.vram_dma, state.double_speed, input);
+    let arbitrated = oam_arbitration::arbitrate_oam_bus(state.vram_dma, state.double_speed, input);
     let found = arbitrated.answer;
     let answer = told(found);
     let mut after = state;
@@ -59,6 +59,6 @@ pub fn vram_dma_conflict_source(state: Cgb, address: u16) -> ConflictAnswer
     if state.unreached() {
         return ConflictAnswer::Refused(refusal::STATE);
     }
-    let found = transfer::write_conflict_source(state.vram_dma, state.double_speed, address);
+    let found = dma_status::write_conflict_source(state.vram_dma, state.double_speed, address);
     collides(found)
 }

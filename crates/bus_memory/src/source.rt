@@ -22,7 +22,7 @@ pub fn read_source(video: u8, cartridge: &[u8], wram: &[u8], svbk: u8, address: 
         return byte_at(wram, at - 0xC000);
     }
     if at < 0xE000 {
-        return byte_at(wram, registers::wram::banked(svbk, address - 0xD000));
+        return byte_at(wram, memory::wram::banked(svbk, address - 0xD000));
     }
     0xFF
 }

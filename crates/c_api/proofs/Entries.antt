@@ -5,7 +5,7 @@ use mathlib.Core.Bool.{Bool, true, false, not, cond}
 use mathlib.Core.List.{List}
 use Rattle.codec.specs.Codec.{encodeOf, decodeOf}
 use Rattle.codec.proofs.RoundTrip.{round-trip}
-use Rattle.codec.specs.Number.{byteAt}
+use Rattle.arithmetic.specs.Number.{byteAt}
 use Rattle.codec.specs.declared.Decoded.{Decoded}
 use Rattle.console.specs.declared.Cgb.{Cgb}
 use Rattle.perform.specs.Record.{recordPerformed, recordWram, recordVram, recordOam, PerformsRecord}

@@ -5,7 +5,7 @@ use mathlib.Core.Bool.{Bool, not, cond}
 use mathlib.Core.List.{List}
 use lib.Dec.{eqb}
 use Rattle.codec.specs.Codec.{encodeOf, decodeOf}
-use Rattle.codec.specs.Number.{byteAt}
+use Rattle.arithmetic.specs.Number.{byteAt}
 use Rattle.console.specs.PowerOn.{powerOnOf}
 use Rattle.console.specs.declared.Cgb.{Cgb}
 use Rattle.perform.specs.Perform.{performOf, wramLeft, vramLeft, oamLeft}

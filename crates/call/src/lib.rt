@@ -4,8 +4,8 @@ pub mod query;
 use bus::arbitration::ArbitrationInput;
 use bus::commit::BusInput;
 use fall_edge::FallInput;
+use map_write::WriteInput;
 use query::Query;
-use registers::WriteInput;
 use speed_switch::switch::SwitchInput;
 
 pub enum Call {

@@ -10,10 +10,10 @@ use Rattle.console.specs.PowerOn.{powerOnOf, dmaAtRest}
 use Rattle.console.specs.declared.Cgb.{Cgb}
 use Rattle.memory.specs.Lengths.{wramLength}
 use Rattle.console.specs.Reached.{unreached}
-use Rattle.hdma.specs.Hdma5.{hdma5Written, armedOf, cancelledOf, startedOf, statusByte}
+use Rattle.hdma.specs.Hdma5.{hdma5Written, armedOf, cancelledOf, generalStarted, statusByte}
 use Rattle.registers.specs.Map.{placeOf, locksAt}
-use Rattle.registers.specs.Read.{byteAt}
-use Rattle.registers.specs.Write.{mapWriteOf, storedOf}
+use Rattle.map_read.specs.Read.{mapByte}
+use Rattle.map_write.specs.Write.{mapWriteOf, storedOf}
 use Rattle.bus.specs.Arbitration.{contends, stalls, arbitrationOf, arbitratedOf}
 use Rattle.bus.specs.Commit.{takenOf, pairsOf, busTaken, bytesOf, vramAfter, oamAfter}
 use Rattle.bus.specs.Deposit.{deposited}
@@ -22,23 +22,22 @@ use Rattle.bus.specs.Store.{oamWith}
 use Rattle.transfer.specs.Conflict.{willMove}
 use Rattle.transfer.specs.Pair.{movingOf, cursorAfter, blockAfter, arbAfter, advancedOf, nextByteOf}
 use Rattle.transfer.specs.Questions.{seizesBus}
-use Rattle.fall_edge.specs.View.{viewOf}
-use Rattle.fall_edge.specs.Stages.{settledOf, observedArb, observedOf, judgedBlock, ungrantedArb, probationOf, droppedBlock, haltLatchArb}
-use Rattle.fall_edge.specs.Stages.{haltLatchOf, agedArb, pendedArb, grants, grantedArb, gatedOf, refilledOf, blindsArb, blindsOf}
-use Rattle.fall_edge.specs.Stages.{commitBlock, commitArb, commitOf, tenureArb, tenureOf, pendArb, pendOf, readyBlock, readinessOf}
-use Rattle.fall_edge.specs.Stages.{seizedBlock, seizureOf}
-use Rattle.fall_edge.specs.Fall as stages
-use Rattle.fall_edge.specs.Fall.{fallOf, ranOf, decidedOf, servedOf}
-use Rattle.speed_switch.specs.Switch as switch
-use Rattle.speed_switch.specs.Switch.{outcomeOf, ungranted, cutOf, discardedOf, gradedOf, upwardOf, engineAfter, blackoutOf, switchedOf}
-use Rattle.speed_switch.specs.Blackout.{drainedOf}
-use Rattle.bus_calls.specs.Access.{accessRefusal, readOf, writeOf}
-use Rattle.bus_calls.specs.Bus.{arbitrationCallOf}
-use Rattle.bus_calls.specs.BusCall.{Lengths, lengthsOf, wrongLengths, busRefusal, busPairs, busAnswer, busState, busVram, busOam}
-use Rattle.engine.specs.Fall.{fallRefusal, fallenState, fallCallOf}
+use Rattle.fall_stages.specs.Fall.{viewOf}
+use Rattle.fall_stages.specs.Fall.{settledOf, observedArb, observedOf, judgedBlock, ungrantedArb, probationOf, droppedBlock, haltLatchArb}
+use Rattle.fall_stages.specs.Fall.{haltLatchOf, agedArb, pendedArb, grants, grantedArb, gatedOf, refilledOf, blindsArb, blindsOf}
+use Rattle.fall_stages.specs.Fall.{commitBlock, commitArb, commitOf, tenureArb, tenureOf, pendArb, pendOf, readiedBlock, readinessOf}
+use Rattle.fall_stages.specs.Fall.{seizedBlock, seizureOf}
+use Rattle.fall_stages.specs.Fall as stages
+use Rattle.fall_stages.specs.Fall.{fallOf, ranOf, decidedOf, servedOf}
+use Rattle.cut.specs.Cut as switch
+use Rattle.cut.specs.Cut.{outcomeOf, ungranted, cutOf, discardedOf, gradedOf, upwardOf, engineAfter}
+use Rattle.speed_switch.specs.Switch.{blackoutOf, switchedOf}
+use Rattle.blackout.specs.Blackout.{drainedOf}
+use Rattle.engine.specs.Calls.{readRefusal, accessRefusal, readOf, writeOf, fallRefusal, fallenState, fallCallOf, Lengths, lengthsOf, wrongLengths}
+use Rattle.engine.specs.Calls.{busRefusal, busPairs, busAnswer, busState, busVram, busOam, arbitrationCallOf, defers, switchRefusal, switchCallOf}
+use Rattle.engine.specs.Calls.{blackoutCallOf}
 use Rattle.answers.specs.Answers.{stateRefusal, byteAnswer}
 use Rattle.answers.specs.declared.ByteAnswer.the-variants as byte
-use Rattle.engine.specs.Speed.{defers, switchRefusal, switchCallOf, blackoutCallOf}
 use Rattle.ledger.specs.Ledger.{empty, followed, afterPair, afterPairs, afterCall}
 use Rattle.ledger.specs.Calls.{step, ledgerInput}
 use Rattle.ledger.proofs.Bools.{and-left, and-right}
@@ -66,10 +65,10 @@ is-same (p ∷ ps) (q ∷ qs) h =
 -- a read of FF55 looks at no more of the work RAM than its length
 ff55-by :
     (v : ℕ) (w : Progress) →
-    byteAnswer (accessRefusal (w .engine) wramLength 0xFF55) (byteAt (w .engine) [] (placeOf 0xFF55)) ≡ byte.Byte v → ff55-is v w
+    byteAnswer (readRefusal (w .engine) wramLength 0xFF55) (mapByte (w .engine) [] (placeOf 0xFF55)) ≡ byte.Byte v → ff55-is v w
 unfolding readOf placeOf
 ff55-by v w h wram sized =
-    ap (λ (n : ℕ). byteAnswer (accessRefusal (w .engine) n 0xFF55) (byteAt (w .engine) [] (placeOf 0xFF55))) sized ∙ h
+    ap (λ (n : ℕ). byteAnswer (readRefusal (w .engine) n 0xFF55) (mapByte (w .engine) [] (placeOf 0xFF55))) sized ∙ h
 
 -- and a bus call's deposit at no more of the four slices than their lengths
 at-exit :
@@ -85,7 +84,7 @@ unfolding start afterOne afterCalls step ledgerInput powerOnOf dmaAtRest unreach
 opens-runs = tt
 
 opens-writes : Unit {0}
-unfolding writeOf accessRefusal placeOf mapWriteOf storedOf locksAt hdma5Written armedOf cancelledOf startedOf statusByte
+unfolding writeOf accessRefusal placeOf mapWriteOf storedOf locksAt hdma5Written armedOf cancelledOf generalStarted statusByte
 opens-writes = tt
 
 opens-fall-decides : Unit {0}
@@ -97,7 +96,7 @@ unfolding observedArb observedOf judgedBlock ungrantedArb probationOf droppedBlo
 opens-fall-grants = tt
 
 opens-fall-commits : Unit {0}
-unfolding gatedOf refilledOf blindsArb blindsOf commitBlock commitArb commitOf tenureArb tenureOf pendArb pendOf readyBlock readinessOf seizedBlock seizureOf
+unfolding gatedOf refilledOf blindsArb blindsOf commitBlock commitArb commitOf tenureArb tenureOf pendArb pendOf readiedBlock readinessOf seizedBlock seizureOf
 opens-fall-commits = tt
 
 opens-fall : Unit {0}

@@ -12,10 +12,7 @@ use Rattle.memory.specs.Lengths.{cartridgeLength, wramLength, vramLength, oamLe
 use Rattle.bus.specs.declared.arbitration.ArbitrationInput.{ArbitrationInput}
 use Rattle.bus.specs.declared.commit.BusInput.{BusInput}
 use Rattle.transfer.specs.declared.pair.BytePair.{BytePair}
-use Rattle.bus_calls.specs.Access.{readOf}
-use Rattle.bus_calls.specs.Bus.{arbitrationCallOf}
-use Rattle.bus_calls.specs.BusCall.{Lengths, lengthsOf, busAnswer, busVram, busOam}
-use Rattle.engine.specs.Speed.{switchCallOf}
+use Rattle.engine.specs.Calls.{readOf, Lengths, lengthsOf, busAnswer, busVram, busOam, arbitrationCallOf, switchCallOf}
 use Rattle.answers.specs.declared.ArbitrationAnswer.the-variants as arbitration
 use Rattle.answers.specs.declared.BusAnswer.the-variants as bus
 use Rattle.answers.specs.declared.ByteAnswer.the-variants as byte

@@ -5,7 +5,7 @@ use console::Cgb;
 
 fn drain(state: Cgb, elapsed: u32) -> Cgb {
     say::number(b"drained by: ", elapsed);
-    let drained = engine::speed::drain_speed_switch_blackout(state, elapsed);
+    let drained = engine::drain_speed_switch_blackout(state, elapsed);
     let answer = drained.answer;
     say::label(b"over: ");
     say::flag(answer);

@@ -5,12 +5,12 @@ use answers::Handed;
 use bus::arbitration::ArbitrationInput;
 use console::Cgb;
 use fall_edge::FallInput;
-use registers::WriteInput;
+use map_write::WriteInput;
 use speed_switch::switch::SwitchInput;
 
 fn write(state: Cgb, address: u16, input: WriteInput) -> Cgb {
     let mut wram = [0u8; 32768];
-    bus_calls::access::write(state, &mut wram, address, input).state
+    engine::write(state, &mut wram, address, input).state
 }
 
 // A register write with the LCD on.
@@ -43,7 +43,7 @@ pub fn written(state: Cgb, address: u16, value: u8) -> Cgb {
         value: value,
         lcd_on: true,
     };
-    let w = bus_calls::access::write(state, &mut wram, address, input);
+    let w = engine::write(state, &mut wram, address, input);
     let answer = w.answer;
     say::done(answer);
     w.state
@@ -51,16 +51,16 @@ pub fn written(state: Cgb, address: u16, value: u8) -> Cgb {
 
 pub fn read(state: Cgb, address: u16) {
     let wram = [0u8; 32768];
-    say::byte(bus_calls::access::read(state, &wram, address));
+    say::byte(engine::read(state, &wram, address));
 }
 
 pub fn tally(state: Cgb) {
-    say::tally(queries::tally(state));
+    say::tally(engine::tally(state));
 }
 
 // A fall, running or halted, with nothing else going on.
 pub fn fall(state: Cgb, mode: u8, halted: bool) -> Fell {
-    engine::fall::vram_dma_fall_edge(
+    engine::vram_dma_fall_edge(
         state,
         FallInput {
             mode: mode,
@@ -88,7 +88,7 @@ pub fn fallen_at(state: Cgb, mode: u8, master_edge: u64) -> Cgb {
         master_edge: master_edge,
         oam_owns_bus: false,
     };
-    engine::fall::vram_dma_fall_edge(state, input).state
+    engine::vram_dma_fall_edge(state, input).state
 }
 
 // Arbitration of a held bus while OAM DMA drives a byte.
@@ -98,7 +98,7 @@ pub fn arbitrate(state: Cgb) -> Cgb {
         suspended: false,
         oam_transferring: true,
     };
-    let arbitrated = bus_calls::shared_bus::vram_dma_arbitrate_oam(state, input);
+    let arbitrated = engine::vram_dma_arbitrate_oam(state, input);
     let answer = arbitrated.answer;
     say::arbitrated(answer);
     arbitrated.state
@@ -111,11 +111,11 @@ fn handed(h: Handed) -> Cgb {
 }
 
 pub fn next(state: Cgb) -> Cgb {
-    handed(engine::pair::next_byte(state))
+    handed(engine::next_byte(state))
 }
 
 pub fn drain_escape(state: Cgb) -> Cgb {
-    handed(engine::pair::vram_dma_drain_escape(state))
+    handed(engine::vram_dma_drain_escape(state))
 }
 
 // An attempt with no interrupt ready.
@@ -126,7 +126,7 @@ pub fn switch(state: Cgb, dot_phase: u8, hold: bool) -> Cgb {
         interrupt_ready: false,
         master_edge: 0,
     };
-    let switched = engine::speed::attempt_speed_switch(state, input);
+    let switched = engine::attempt_speed_switch(state, input);
     let answer = switched.answer;
     say::switched(answer);
     switched.state

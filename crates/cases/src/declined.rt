@@ -86,7 +86,7 @@ pub fn switches() {
     unarmed(state);
     let up = armed(calls::set(state, 0xFF4D, 0x01));
     blacked_out(up);
-    let over = engine::speed::drain_speed_switch_blackout(up, 131_077);
+    let over = engine::drain_speed_switch_blackout(up, 131_077);
     say::label(b"after the blackout, unarmed: ");
     declined(over.state, 4, false);
     latched(calls::set_in_the_dark(over.state, 0xFF55, 0x80));

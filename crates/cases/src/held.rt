@@ -2,7 +2,7 @@
 use crate::lent;
 use crate::say;
 use answers::BusAnswer;
-use answers::Bussed;
+use answers::BusOutcome;
 use bus::commit::BusInput;
 use console::Cgb;
 use transfer::pair::BytePair;
@@ -21,7 +21,7 @@ fn told(there: bool, pair: BytePair, byte: u8) {
 }
 
 // The pairs in order, as many as the answer says.
-fn tell(b: Bussed) -> Cgb {
+fn tell(b: BusOutcome) -> Cgb {
     let answer = b.answer;
     let pairs = b.pairs;
     let bytes = b.bytes;
@@ -46,7 +46,7 @@ pub fn beside(
         suspended: false,
         oam_start_edge: oam_start_edge,
     };
-    let b = bus_calls::bus_call::vram_dma_commit_bytes(state, input, cartridge, &wram, vram, oam);
+    let b = engine::vram_dma_commit_bytes(state, input, cartridge, &wram, vram, oam);
     tell(b)
 }
 

@@ -12,7 +12,7 @@ fn call(state: Cgb, cartridge: &[u8], wram: &[u8], vram: &mut [u8], oam: &mut [u
         suspended: false,
         oam_start_edge: 0,
     };
-    let b = bus_calls::bus_call::vram_dma_commit_bytes(state, input, cartridge, wram, vram, oam);
+    let b = engine::vram_dma_commit_bytes(state, input, cartridge, wram, vram, oam);
     let answer = b.answer;
     say::bussed(answer);
     say::yes(b"state as before: ", calls::same(state, b.state));

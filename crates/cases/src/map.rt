@@ -2,7 +2,7 @@
 use crate::calls;
 use crate::say;
 use console::Cgb;
-use registers::WriteInput;
+use map_write::WriteInput;
 
 // A write with the LCD on, of which only the state is wanted.
 fn set(state: Cgb, wram: &mut [u8; 32768], address: u16, value: u8) -> Cgb {
@@ -10,7 +10,7 @@ fn set(state: Cgb, wram: &mut [u8; 32768], address: u16, value: u8) -> Cgb {
         value: value,
         lcd_on: true,
     };
-    bus_calls::access::write(state, wram, address, input).state
+    engine::write(state, wram, address, input).state
 }
 
 // A write with the LCD on, with a line for its answer; of any slice.
@@ -19,14 +19,14 @@ fn wrote(state: Cgb, wram: &mut [u8], address: u16, value: u8) -> Cgb {
         value: value,
         lcd_on: true,
     };
-    let w = bus_calls::access::write(state, wram, address, input);
+    let w = engine::write(state, wram, address, input);
     let answer = w.answer;
     say::done(answer);
     w.state
 }
 
 fn read_of(state: Cgb, wram: &[u8], address: u16) {
-    say::byte(bus_calls::access::read(state, wram, address));
+    say::byte(engine::read(state, wram, address));
 }
 
 fn read(state: Cgb, wram: &[u8; 32768], address: u16) {

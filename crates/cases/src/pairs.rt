@@ -2,8 +2,8 @@
 use crate::calls;
 use crate::say;
 use answers::PairAnswer;
+use arithmetic::step::saturating_inc;
 use console::Cgb;
-use countdown::step::saturating_inc;
 use transfer::pair::BytePair;
 
 // A transfer under way, with what has come of it.
@@ -36,7 +36,7 @@ fn fell(run: Run) -> Run {
 
 // A next pair; where none comes, a fall.
 fn turn(run: Run) -> Run {
-    let handed = engine::pair::next_byte(run.state);
+    let handed = engine::next_byte(run.state);
     let answer = handed.answer;
     let PairAnswer::Pair(pair) = answer else {
         return fell(run);

@@ -2,10 +2,10 @@
 // discarded, downward the engine stays as it is.
 ghost use mathlib.Core.Path.{_≡_};
 ghost use Rattle.cut.specs.Cut.{readyBlock, outcomeOf, ungranted, cutOf, discardedOf, gradedOf, upwardOf, engineAfter};
+use arithmetic::step::less_one;
 use console::vram_dma::TransferCursor;
 use console::vram_dma::TransferMode;
 use console::vram_dma::VramDma;
-use countdown::step::less_one;
 
 // What became of a latched block.
 pub enum SwitchOutcome {

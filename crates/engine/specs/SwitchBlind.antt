@@ -5,7 +5,7 @@ use mathlib.Core.Bool.{false}
 use Rattle.console.specs.declared.Cgb.{Cgb}
 use Rattle.speed_switch.specs.Switch.{switchedOf}
 use Rattle.speed_switch.specs.declared.switch.SwitchInput.{SwitchInput}
-use Rattle.fall_edge.specs.Windows.{blindOf6, Since}
+use Rattle.fall_stages.specs.Windows.{blindOf6, Since}
 
 -- upward is from single speed; no fall of the window lies behind
 abbrev pub SwitchBlind : Type 0

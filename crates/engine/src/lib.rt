@@ -55,7 +55,7 @@ pub use bus::arbitration::ArbitrationInput;
 pub use bus::commit::BusInput;
 pub use console::Cgb;
 pub use fall_edge::FallInput;
-pub use registers::WriteInput;
+pub use map_write::WriteInput;
 pub use speed_switch::switch::SwitchInput;
 // and what they answer, alone or beside the next state.
 pub use answers::Arbitrated;

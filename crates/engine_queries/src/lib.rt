@@ -31,7 +31,7 @@ pub fn vram_dma_status(state: Cgb) -> StatusAnswer
         return StatusAnswer::Refused(refusal::STATE);
     }
     let d = state.vram_dma;
-    let status = transfer::status(d);
+    let status = dma_status::status(d);
     StatusAnswer::Status(status)
 }
 
@@ -65,7 +65,7 @@ pub fn vram_dma_request_standing(state: Cgb) -> FlagAnswer
         return FlagAnswer::Refused(refusal::STATE);
     }
     let d = state.vram_dma;
-    FlagAnswer::Flag(transfer::request_standing(d))
+    FlagAnswer::Flag(dma_status::request_standing(d))
 }
 
 pub fn vram_dma_holds_cpu(state: Cgb) -> FlagAnswer
@@ -75,7 +75,7 @@ pub fn vram_dma_holds_cpu(state: Cgb) -> FlagAnswer
         return FlagAnswer::Refused(refusal::STATE);
     }
     let d = state.vram_dma;
-    FlagAnswer::Flag(transfer::holds_cpu(d))
+    FlagAnswer::Flag(dma_status::holds_cpu(d))
 }
 
 pub fn vram_dma_seizes_bus(state: Cgb) -> FlagAnswer
@@ -85,5 +85,5 @@ pub fn vram_dma_seizes_bus(state: Cgb) -> FlagAnswer
         return FlagAnswer::Refused(refusal::STATE);
     }
     let d = state.vram_dma;
-    FlagAnswer::Flag(transfer::seizes_bus(d))
+    FlagAnswer::Flag(dma_status::seizes_bus(d))
 }

@@ -5,10 +5,10 @@ use mathlib.Core.Bool.{Bool, true, false, cond}
 use lib.Dec.{eqb}
 use Rattle.console.specs.declared.Cgb.{Cgb}
 use Rattle.console.specs.declared.vram_dma.VramDma.{VramDma}
-use Rattle.fall_edge.specs.Fall.{fallOf, refusedOf}
-use Rattle.fall_edge.specs.declared.FallInput.{FallInput}
-use Rattle.fall_edge.specs.declared.Fallen.{Fallen}
-use Rattle.fall_edge.proofs.Steps.{fall-steps}
+use Rattle.fall_stages.specs.Fall.{fallOf, refusedOf}
+use Rattle.fall_stages.specs.declared.FallInput.{FallInput}
+use Rattle.fall_stages.specs.declared.Fallen.{Fallen}
+use Rattle.fall_stages.proofs.Steps.{fall-steps}
 use Rattle.answers.specs.Answers.{kept, Answers, claimed, claimAnswer, claimSays, fellSays}
 use Rattle.answers.proofs.Numbers.{told, answers}
 use Rattle.fall_call.specs.Fall.{fallen, fallRefusal, judgedOf, fallenState, fallCallOf, fallSaid}

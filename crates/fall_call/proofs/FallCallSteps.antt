@@ -6,8 +6,8 @@ use borrow.Author.Tests.{lt-ltb, le-ltb, eq-eqb, ne-eqb}
 use Rattle.console.specs.Reached.{unreached}
 use Rattle.console.specs.declared.Cgb.{Cgb}
 use Rattle.console.specs.declared.VramDmaClaim.{VramDmaClaim}
-use Rattle.fall_edge.specs.declared.FallInput.{FallInput}
-use Rattle.fall_edge.proofs.Steps.{fall-steps}
+use Rattle.fall_stages.specs.declared.FallInput.{FallInput}
+use Rattle.fall_stages.proofs.Steps.{fall-steps}
 use Rattle.fall_call.specs.Fall.{fallen, fallRefusal, fallenState, fallCallOf}
 use Rattle.fall_call.specs.FallCallSteps.{FallRefusals, FallCallSteps, tellsCommit}
 

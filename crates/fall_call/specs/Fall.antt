@@ -9,9 +9,9 @@ use Rattle.console.specs.Set.{withVramDma, withConsoleState, withConsoleVramDma
 use Rattle.console.specs.declared.Cgb.{Cgb}
 use Rattle.console.specs.declared.VramDmaClaim.{VramDmaClaim}
 use Rattle.console.specs.declared.vram_dma.VramDma.{VramDma}
-use Rattle.fall_edge.specs.Fall.{fallOf, refusedOf}
-use Rattle.fall_edge.specs.declared.FallInput.{FallInput}
-use Rattle.fall_edge.specs.declared.Fallen.{Fallen}
+use Rattle.fall_stages.specs.Fall.{fallOf, refusedOf}
+use Rattle.fall_stages.specs.declared.FallInput.{FallInput}
+use Rattle.fall_stages.specs.declared.Fallen.{Fallen}
 use Rattle.answers.specs.Answers.{Said, saying, kept, claimed, claimAnswer, claimSays}
 use Rattle.answers.specs.declared.Fell.{Fell}
 use Rattle.fall_call.specs.declared.Judged.{Judged}

@@ -6,7 +6,7 @@ use mathlib.Core.Path.{_≡_}
 use mathlib.Core.Bool.{Bool, true, false}
 use Rattle.console.specs.Reached.{unreached}
 use Rattle.console.specs.declared.Cgb.{Cgb}
-use Rattle.fall_edge.specs.declared.FallInput.{FallInput}
+use Rattle.fall_stages.specs.declared.FallInput.{FallInput}
 use Rattle.answers.specs.declared.ClaimAnswer.{ClaimAnswer}
 use Rattle.answers.specs.declared.ClaimAnswer.the-variants.{Claim, Refused}
 use Rattle.answers.specs.declared.Fell.{Fell}

@@ -2,17 +2,16 @@
 // once for every outcome.
 ghost use mathlib.Core.Path.{_≡_};
 ghost use mathlib.Core.Bool.{cond};
-ghost use Rattle.fall_edge.specs.Fall.{fallOf, refusedOf};
+ghost use Rattle.fall_stages.specs.Fall.{fallOf, refusedOf};
 ghost use Rattle.answers.specs.Answers.{Answers, claimAnswer, fellSays};
 ghost use Rattle.fall_call.specs.Fall.{fallNumber, judgedOf, fallenState, fallCallOf, fallSaid};
 use answers::ClaimAnswer;
 use answers::Fell;
+use arithmetic::pick::pick8;
 use console::Cgb;
 use console::VramDmaClaim;
 use console::refusal;
-use console::same;
 use console::vram_dma::VramDma;
-use countdown::pick::pick8;
 use fall_edge::FallInput;
 use fall_edge::Fallen;
 
@@ -25,7 +24,7 @@ struct Judged {
 fn declined(d: VramDma, number: u8) -> Judged
     ensures { λ r. ⌜ r ≡ record { number = number; fallen = refusedOf d } ⌝ }
 {
-    let dma = same::dma(d);
+    let dma = rebuild::dma(d);
     Judged {
         number: number,
         fallen: Fallen {
@@ -50,7 +49,7 @@ fn judge(unreached: bool, d: VramDma, double_speed: bool, input: FallInput) -> J
     }
     let fallen = fall_edge::fall_edge(d, double_speed, input);
     let number = pick8(fallen.refused, refusal::GRANTED, 0);
-    let dma = same::dma(fallen.dma);
+    let dma = rebuild::dma(fallen.dma);
     Judged {
         number: number,
         fallen: Fallen {
@@ -79,7 +78,7 @@ fn fallen_state(state: Cgb, fallen: Fallen) -> Cgb
         fallen.claim,
         state.console_state.vram_dma_claim,
     );
-    let mut after = same::cgb_with(state, fallen.dma);
+    let mut after = rebuild::with_vram_dma(state, fallen.dma);
     after.console_state.vram_dma_claim.committed = claim.committed;
     after.console_state.vram_dma_claim.standing = claim.standing;
     after

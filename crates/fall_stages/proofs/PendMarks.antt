@@ -8,8 +8,9 @@ use Rattle.fall_stages.specs.Fall.{viewOf, settledOf, observedArb, obser
 use Rattle.fall_stages.specs.Fall.{refilledOf, blindsArb, blindsOf, commits, commitArb, commitOf, tenureArb, tenureOf, pends, pendArb, pendOf}
 use Rattle.fall_stages.specs.Fall.{readinessOf, seizureOf, servedOf, fallOf}
 use Rattle.fall_stages.specs.Steps.{settles, before6}
-use Rattle.fall_stages.specs.Once.{Running}
-use Rattle.fall_stages.specs.PendMarks.{Calm, Clear, Tidy, SameMarks, PendMarks}
+use Rattle.fall_stages.specs.Once.{Running, Between}
+use Rattle.transfer.specs.Keeps.{KeepsMarks}
+use Rattle.fall_stages.specs.PendMarks.{Calm, Clear, Tidy, PendMarks}
 use Rattle.fall_stages.specs.declared.FallInput.{FallInput}
 use Rattle.fall_stages.specs.declared.View.{View}
 use Rattle.fall_stages.proofs.QuietFall.{settles-means}
@@ -169,6 +170,10 @@ module _ (i : FallInput) (double : Bool) (d : VramDma) (r : Running true i) wher
       by true n = rw (fall-steps i double d .refused-keeps n .0) k
       by false n = inside-leaves (k .strobe) n
 
+-- what keeps the marks may come between two falls
+pub keeps-between : {d e : VramDma} → KeepsMarks d e → Between d e
+keeps-between k = record { taken = λ h. k .taken ∙ h; pend = λ h. k .pend ∙ h }
+
 pub pend-marks : (i : FallInput) (double : Bool) (d : VramDma) → PendMarks i double d
 pend-marks i double d =
     record {
@@ -181,5 +186,5 @@ pend-marks i double d =
       kept-tidy =
           λ e k c.
           record { granted = k .granted ∙ c .granted; strobe = k .strobe ∙ c .strobe; pend = rw (k .pend, k .from-arm) (c .pend) };
-      between = λ e k. record { taken = λ h. k .taken ∙ h; pend = λ h. k .pend ∙ h };
+      between = λ e k. keeps-between k;
     }

@@ -9,7 +9,7 @@ use Rattle.console.specs.declared.vram_dma.TransferCursor.{TransferCursor}
 use Rattle.console.specs.declared.vram_dma.TransferMode.the-variants as mode
 use Rattle.console.specs.declared.vram_dma.VramDma.{VramDma}
 use Rattle.transfer.specs.Pair.{movingOf, quotaOf}
-use Rattle.transfer.proofs.Steps.{pair-steps}
+use Rattle.transfer.proofs.PairSteps.{pair-steps}
 use Rattle.fall_stages.specs.Fall.{fallOf}
 use Rattle.fall_stages.specs.Refills.{Refills}
 use Rattle.fall_stages.specs.declared.FallInput.{FallInput}

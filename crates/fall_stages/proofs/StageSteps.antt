@@ -5,7 +5,8 @@ use mathlib.Core.Path.{_≡_, refl, sym, _∙_}
 use mathlib.Core.Bool.{Bool, true, false, cond, not, _&&_, _||_, and-false, and-true, or-false, or-true}
 use lib.Dec.{eqb}
 use borrow.Author.Tests.{lt-ltb, le-ltb, le-leb, lt-leb, eq-eqb, ne-eqb}
-use Rattle.countdown.specs.Countdown.{armed, cleared, activeOf, stepped, saturatingInc}
+use Rattle.countdown.specs.Countdown.{armed, cleared, activeOf, stepped}
+use Rattle.arithmetic.specs.SmallSteps.{saturatingInc}
 use Rattle.console.specs.Set.{withBlockRemaining, withBlockStartEdge, withBlockTaken, withBlockReadyIn, withBlockSetupCells}
 use Rattle.console.specs.Set.{withBlockFromArm, withBlockArmReadyProbation, withBlockSeizeFalls, withArbPend, withArbPendFromArm}
 use Rattle.console.specs.Set.{withArbPendAge, withArbPendGranted, withArbArmedThisFall, withArbGrantCounted, withArbGrantedAhead}

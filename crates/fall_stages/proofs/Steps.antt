@@ -5,14 +5,15 @@ use mathlib.Core.Path.{_≡_, refl, sym, ap, _∙_}
 use mathlib.Core.Bool.{Bool, true, false, cond, not, _&&_, _||_, and-false, false≢true, true≢false}
 use lib.Dec.{leb, eqb}
 use borrow.Author.Tests.{lt-ltb, le-ltb, eqb-false, eqb-true, not-true}
-use Rattle.countdown.specs.Countdown.{armed, activeOf, saturatingInc}
+use Rattle.countdown.specs.Countdown.{armed, activeOf}
+use Rattle.arithmetic.specs.SmallSteps.{saturatingInc}
 use Rattle.console.specs.Set.{withCursorQuota}
 use Rattle.console.specs.declared.vram_dma.HaltArbiter.{HaltArbiter}
 use Rattle.console.specs.declared.vram_dma.HblankBlock.{HblankBlock}
 use Rattle.console.specs.declared.vram_dma.VramDma.{VramDma}
 use Rattle.transfer.specs.Pair.{movingOf, quotaOf}
 use Rattle.transfer.specs.Questions.{seizesBus}
-use Rattle.transfer.proofs.Steps.{pair-steps}
+use Rattle.transfer.proofs.PairSteps.{pair-steps}
 use Rattle.fall_stages.specs.Fall.{viewOf, gates, stillOf, inertOf, settledOf, observedArb, observedOf, judgedBlock, ungrantedArb}
 use Rattle.fall_stages.specs.Fall.{probationOf, droppedBlock, haltLatchArb, haltLatchOf, refilledOf, agedArb, pendedArb, grantedArb}
 use Rattle.fall_stages.specs.Fall.{gatedOf, blindsArb, blindsOf, commits, overflows, commitBlock, commitArb, commitOf, tenureArb}

@@ -3,7 +3,8 @@
 use Prim.Native.Nat.{ℕ, _-_, _/_}
 use mathlib.Core.Bool.{Bool, true, false, cond, not, _&&_, _||_}
 use lib.Dec.{ltb, leb, eqb}
-use Rattle.countdown.specs.Countdown.{armed, cleared, activeOf, remainingOf, ticked, expiredOf, saturatingInc}
+use Rattle.countdown.specs.Countdown.{armed, cleared, activeOf, remainingOf, ticked, expiredOf}
+use Rattle.arithmetic.specs.SmallSteps.{saturatingInc}
 use Rattle.countdown.specs.declared.Countdown.{Countdown}
 use Rattle.console.specs.Modes.{isHBlank}
 use Rattle.console.specs.Set.{withCursorQuota, withBlockRemaining, withBlockStartEdge, withBlockTaken, withBlockSetupCells}

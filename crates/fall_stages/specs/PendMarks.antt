@@ -3,6 +3,7 @@
 use mathlib.Core.Path.{_≡_}
 use mathlib.Core.Bool.{Bool, true, false, _&&_, _||_}
 use Rattle.console.specs.declared.vram_dma.VramDma.{VramDma}
+use Rattle.transfer.specs.Keeps.{KeepsMarks}
 use Rattle.fall_stages.specs.Fall.{fallOf}
 use Rattle.fall_stages.specs.Once.{Running, Between}
 use Rattle.fall_stages.specs.declared.FallInput.{FallInput}
@@ -23,14 +24,6 @@ pub record Tidy (d : VramDma) : Type 0 where
   pub strobe : d .arb .«armed_this_fall» ≡ false
   pub pend : (d .arb .pend && d .arb .«pend_from_arm») ≡ false
 
--- a call that keeps the pend, its marks, the strobe and taken
-pub record SameMarks (d e : VramDma) : Type 0 where
-  pub pend : e .arb .pend ≡ d .arb .pend
-  pub from-arm : e .arb .«pend_from_arm» ≡ d .arb .«pend_from_arm»
-  pub granted : e .arb .«pend_granted» ≡ d .arb .«pend_granted»
-  pub strobe : e .arb .«armed_this_fall» ≡ d .arb .«armed_this_fall»
-  pub taken : e .block .taken ≡ d .block .taken
-
 pub record PendMarks (i : FallInput) (double : Bool) (d : VramDma) : Type 0 where
   -- outside mode 0: accepted, without a commit, where no pend could commit there
   pub outside-accepted : Running false i → Calm d → fallOf i double d .refused ≡ false
@@ -42,6 +35,6 @@ pub record PendMarks (i : FallInput) (double : Bool) (d : VramDma) : Type 0 wher
       Running true i → d .arb .«armed_this_fall» ≡ false → fallOf i double d .refused ≡ false → Tidy (fallOf i double d .dma)
   pub inside-tidy : Running true i → Tidy d → Tidy (fallOf i double d .dma)
   -- what keeps the marks comes between
-  pub kept-clear : (e : VramDma) → SameMarks d e → Clear d → Clear e
-  pub kept-tidy : (e : VramDma) → SameMarks d e → Tidy d → Tidy e
-  pub between : (e : VramDma) → SameMarks d e → Between d e
+  pub kept-clear : (e : VramDma) → KeepsMarks d e → Clear d → Clear e
+  pub kept-tidy : (e : VramDma) → KeepsMarks d e → Tidy d → Tidy e
+  pub between : (e : VramDma) → KeepsMarks d e → Between d e

@@ -4,7 +4,8 @@ use Prim.Native.Nat.{_-_, _/_, _<_, _≤_}
 use mathlib.Core.Path.{_≡_}
 use mathlib.Core.Bool.{Bool, true, false, cond, not, _&&_, _||_}
 use lib.Dec.{ltb, eqb}
-use Rattle.countdown.specs.Countdown.{armed, cleared, activeOf, remainingOf, stepped, saturatingInc}
+use Rattle.countdown.specs.Countdown.{armed, cleared, activeOf, remainingOf, stepped}
+use Rattle.arithmetic.specs.SmallSteps.{saturatingInc}
 use Rattle.console.specs.Set.{withBlockRemaining, withBlockStartEdge, withBlockTaken, withBlockReadyIn, withBlockSetupCells}
 use Rattle.console.specs.Set.{withBlockFromArm, withBlockArmReadyProbation, withBlockSeizeFalls, withArbPend, withArbPendFromArm}
 use Rattle.console.specs.Set.{withArbPendAge, withArbPendGranted, withArbArmedThisFall, withArbGrantCounted, withArbGrantedAhead}

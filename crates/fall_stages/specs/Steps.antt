@@ -3,7 +3,8 @@ use Prim.Native.Nat.{_+_, _≤_}
 use mathlib.Core.Path.{_≡_}
 use mathlib.Core.Bool.{Bool, true, false, cond, not, _&&_, _||_}
 use lib.Dec.{leb, eqb}
-use Rattle.countdown.specs.Countdown.{armed, cleared, activeOf, saturatingInc}
+use Rattle.countdown.specs.Countdown.{armed, cleared, activeOf}
+use Rattle.arithmetic.specs.SmallSteps.{saturatingInc}
 use Rattle.console.specs.Set.{withCursorQuota}
 use Rattle.console.specs.declared.vram_dma.VramDma.{VramDma}
 use Rattle.transfer.specs.Pair.{movingOf, quotaOf}

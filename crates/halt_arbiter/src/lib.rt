@@ -4,12 +4,12 @@ ghost use mathlib.Core.Bool.{_&&_};
 ghost use Rattle.fall_stages.specs.Fall.{stillArb, settledArb, haltedFallsOf, wakeBlindOf, observedArb, ungrantedArb, haltLatchArb};
 ghost use Rattle.fall_stages.specs.Fall.{agedArb, pendedArb, grants, grantedArb, blinded, blindsArb, drives, tenureIf, commitArb};
 ghost use Rattle.fall_stages.specs.Fall.{consumes, tenureArb, pendArb};
+use arithmetic::step::less_one_if;
+use arithmetic::step::saturating_inc;
+use arithmetic::step::saturating_inc_if;
+use arithmetic::step::wide;
 use console::vram_dma::HaltArbiter;
 use countdown::Countdown;
-use countdown::step::less_one_if;
-use countdown::step::saturating_inc;
-use countdown::step::saturating_inc_if;
-use countdown::step::wide;
 use fall_stages::View;
 
 // The arbiter after its blinds or its tenure ticked. Passed over: an entry fell into one of them, and this HBlank is

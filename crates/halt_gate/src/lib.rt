@@ -72,8 +72,8 @@ pub fn start(d: VramDma, v: View) -> VramDma
 pub fn refill(d: VramDma, double_speed: bool) -> VramDma
     ensures { λ r. ⌜ r ≡ refilledOf «double_speed» d ⌝ }
 {
-    let moving = transfer::pair::moving(d);
-    let quota = transfer::pair::quota(moving, double_speed);
+    let moving = next_pair::moving(d);
+    let quota = next_pair::quota(moving, double_speed);
     rebuild::with_dma_cursor(d, rebuild::with_cursor_quota(d.cursor, quota))
 }
 

@@ -2,11 +2,11 @@
 ghost use mathlib.Core.Path.{_≡_};
 ghost use Rattle.fall_stages.specs.Fall.{stillBlock, settledBlock, takenClears, keptTaken, reverts, judgedBlock, joinsHalt, droppedBlock};
 ghost use Rattle.fall_stages.specs.Fall.{takenIf, precharged, armedUnless, commitBlock, readiedBlock, seizureCount, seizedBlock};
+use arithmetic::pick::pick8;
+use arithmetic::step::saturating_inc;
 use console::vram_dma::HaltArbiter;
 use console::vram_dma::HblankBlock;
 use countdown::Countdown;
-use countdown::pick::pick8;
-use countdown::step::saturating_inc;
 use fall_stages::View;
 
 pub fn still(b: HblankBlock) -> bool

@@ -1,13 +1,13 @@
 // FF55: the status that it reads, and the three things that a write to it can do.
 ghost use mathlib.Core.Path.{_≡_};
 ghost use Rattle.hdma.specs.Hdma5.{statusByte, grantsCleared, paced, armedOf, cancelledOf, generalStarted, hdma5Written};
+use arithmetic::pick::pick8;
+use arithmetic::step::saturating_sub16;
+use arithmetic::step::wide;
 use console::vram_dma::HaltArbiter;
 use console::vram_dma::TransferCursor;
 use console::vram_dma::TransferMode;
 use console::vram_dma::VramDma;
-use countdown::pick::pick8;
-use countdown::step::saturating_sub16;
-use countdown::step::wide;
 
 pub fn status_byte(d: VramDma) -> u8
     ensures { λ r. ⌜ r ≡ statusByte d ⌝ }
@@ -54,7 +54,7 @@ fn arm(mut d: VramDma, length: u16, lcd_on: bool) -> VramDma
     if lcd_on {
         return d;
     }
-    transfer::latch_block(d)
+    dma_events::latch_block(d)
 }
 
 // Bit 7 clear while armed: only the arming ends. A latched block stays.

@@ -1,7 +1,7 @@
 // The bytes of FF51 to FF54 put into a running pointer.
 ghost use mathlib.Core.Path.{_≡_};
 ghost use Rattle.hdma.specs.Pointers.{withHigh, withLow};
-use countdown::step::wide;
+use arithmetic::step::wide;
 
 pub fn with_high(pointer: u16, value: u8) -> u16
     ensures { λ r. ⌜ r ≡ withHigh value pointer ⌝ }

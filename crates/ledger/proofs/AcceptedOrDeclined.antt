@@ -15,15 +15,14 @@ use Rattle.console.proofs.Refusals.{NoneHolds, without, none-holds, never-first
 use Rattle.memory.specs.Lengths.{wramLength, wrongLength}
 use Rattle.bus.specs.declared.arbitration.Arbitration.{Arbitration}
 use Rattle.bus.specs.declared.arbitration.Arbitration.the-variants as bus
-use Rattle.fall_edge.specs.declared.FallInput.{FallInput}
-use Rattle.registers.specs.Map.{placeOf, isMapped}
-use Rattle.registers.specs.Write.{mapWriteOf}
-use Rattle.speed_switch.specs.Blackout.{drainedOf, wokenOf}
-use Rattle.speed_switch.specs.Speed.{blackoutActive}
+use Rattle.fall_stages.specs.declared.FallInput.{FallInput}
+use Rattle.registers.specs.Map.{Place, placeOf, readable, writable}
+use Rattle.map_write.specs.Write.{mapWriteOf}
+use Rattle.blackout.specs.Blackout.{drainedOf, wokenOf, blackoutActive}
 use Rattle.speed_switch.specs.Switch.{switchedOf}
 use Rattle.speed_switch.specs.declared.switch.SwitchInput.{SwitchInput}
-use Rattle.speed_switch.specs.declared.switch.SwitchOutcome.{SwitchOutcome}
-use Rattle.speed_switch.specs.declared.switch.SwitchOutcome.the-variants as outcome
+use Rattle.cut.specs.declared.SwitchOutcome.{SwitchOutcome}
+use Rattle.cut.specs.declared.SwitchOutcome.the-variants as outcome
 use Rattle.transfer.specs.Conflict.{conflictOf}
 use Rattle.transfer.specs.Latch.{lcdDisabledOf, retiredOf}
 use Rattle.transfer.specs.Pair.{nextByteOf, drainOf}
@@ -32,17 +31,12 @@ use Rattle.transfer.specs.declared.Conflict.the-variants as found
 use Rattle.transfer.specs.declared.pair.BytePair.{BytePair}
 use Rattle.transfer.specs.declared.pair.NextAnswer.{NextAnswer}
 use Rattle.transfer.specs.declared.pair.NextAnswer.the-variants as next
-use Rattle.bus_calls.specs.Access.{accessRefusal, writeOf}
+use Rattle.engine.specs.Calls.{readRefusal, writeRefusal, accessRefusal, writeOf, fallen, fallRefusal, fallenState, fallCallOf, pairAnswerOf}
+use Rattle.engine.specs.Calls.{nextPairOf, takenIn, wrongLengths, busRefusal, busPairs, busState, arbitrationAnswerOf, arbitrated, arbitrationCallOf}
+use Rattle.engine.specs.Calls.{switchAnswerOf, defers, switchRefusal, switchCallOf, blackoutCallOf, wakeCallOf, escapeDrainOf, lcdCallOf}
+use Rattle.engine.specs.Calls.{retiredCallOf, conflictAnswerOf, conflictCallOf}
 use Rattle.answers.specs.Answers.{Said, kept, stateRefusal}
-use Rattle.answers.specs.Answers.{doneSays, flagSays, claimSays, pairSays, switchSays, arbitrationSays, conflictSays, tallySays}
-use Rattle.answers.specs.Answers.{statusSays, byteSays}
-use Rattle.bus_calls.specs.Bus.{arbitrated, arbitrationAnswerOf, arbitrationCallOf, conflictAnswerOf, conflictCallOf}
-use Rattle.bus_calls.specs.BusCall.{wrongLengths, busRefusal, takenIn, busPairs, busState}
-use Rattle.engine.specs.Fall.{fallen, fallRefusal, fallenState, fallCallOf}
-use Rattle.engine.specs.Lcd.{lcdCallOf, retiredCallOf}
-use Rattle.engine.specs.Pair.{pairAnswerOf, nextPairOf, escapeDrainOf}
-use Rattle.queries.specs.Query.{flagOf, byteOf, tallyOf, statusOf, claimOf}
-use Rattle.engine.specs.Speed.{defers, switchRefusal, switchAnswerOf, switchCallOf, blackoutCallOf, wakeCallOf}
+use Rattle.answers.specs.Answers.{doneSays, flagSays, claimSays, pairSays, switchSays, arbitrationSays, conflictSays}
 use Rattle.answers.specs.declared.ArbitrationAnswer.{ArbitrationAnswer}
 use Rattle.answers.specs.declared.ArbitrationAnswer.the-variants as arbitration
 use Rattle.answers.specs.declared.ByteAnswer.the-variants as byte
@@ -56,13 +50,13 @@ use Rattle.answers.specs.declared.FlagAnswer.{FlagAnswer}
 use Rattle.answers.specs.declared.FlagAnswer.the-variants as flag
 use Rattle.answers.specs.declared.PairAnswer.{PairAnswer}
 use Rattle.answers.specs.declared.PairAnswer.the-variants as pair
-use Rattle.answers.specs.declared.StatusAnswer.the-variants as status
 use Rattle.answers.specs.declared.SwitchAnswer.{SwitchAnswer}
 use Rattle.answers.specs.declared.SwitchAnswer.the-variants as switch
-use Rattle.answers.specs.declared.TallyAnswer.the-variants as tally
+use Rattle.ask.specs.Ask.{askedOf}
+use Rattle.ask.proofs.Asked.{asked-said}
 use Rattle.ledger.specs.LedgerInput.{accepts}
 use Rattle.ledger.specs.Calls
-use Rattle.ledger.specs.Calls.{Call, Query, Outcome, handing, plain, pairsIn, isCommit, isCut, asked, step}
+use Rattle.ledger.specs.Calls.{Call, Query, Outcome, handing, plain, pairsIn, isCommit, isCut, step}
 
 -- what an accepted call gives
 pub record Given : Type 0 where
@@ -199,8 +193,8 @@ conflict-reads (found.Source a) t = refl
 conflict-reads found.None t = refl
 
 -- the reasons to decline a call besides 7, which comes first
-abbrev pub accessReasons : ℕ → ℕ → List Reason
-accessReasons n a = (wrongLength wramLength n ⇒ 2) ∷ (not (isMapped (placeOf a)) ⇒ 4) ∷ []
+abbrev pub accessReasons : (Place → Bool) → ℕ → ℕ → List Reason
+accessReasons map n a = (wrongLength wramLength n ⇒ 2) ∷ (not (map (placeOf a)) ⇒ 4) ∷ []
 
 abbrev pub fallReasons : Cgb → FallInput → List Reason
 fallReasons s i = (ltb 3 (i .mode) ⇒ 1) ∷ (fallen s i .refused ⇒ 14) ∷ []
@@ -214,8 +208,8 @@ switchReasons s i =
     (defers s ⇒ 13) ∷ []
 
 abbrev pub reasonsOf : Cgb → Call → List Reason
-reasonsOf s (Calls.write a w n byte) = accessReasons n a
-reasonsOf s (Calls.read a n) = accessReasons n a
+reasonsOf s (Calls.write a w n byte) = accessReasons writable n a
+reasonsOf s (Calls.read a n) = accessReasons readable n a
 reasonsOf s (Calls.fall i) = fallReasons s i
 reasonsOf s Calls.next-pair = []
 reasonsOf s Calls.escape-drain = []
@@ -265,28 +259,15 @@ unfolding accessRefusal fallRefusal busRefusal switchRefusal stateRefusal
 opens-numbers = tt
 
 module _ (s : Cgb) where
-  query-says : (q : Query) → asked s q .number ≡ stateRefusal s
-  unfolding tallyOf statusOf claimOf flagOf byteOf
-  query-says Calls.tally = query-number tallySays tally.Refused (stateRefusal s) _ refl (λ k. refl)
-  query-says Calls.status = query-number statusSays status.Refused (stateRefusal s) _ refl (λ k. refl)
-  query-says Calls.claim = query-number claimSays claim.Refused (stateRefusal s) _ refl (λ k. refl)
-  query-says Calls.park = query-number flagSays flag.Refused (stateRefusal s) _ refl (λ k. refl)
-  query-says Calls.request = query-number flagSays flag.Refused (stateRefusal s) _ refl (λ k. refl)
-  query-says Calls.holds = query-number flagSays flag.Refused (stateRefusal s) _ refl (λ k. refl)
-  query-says Calls.seizes = query-number flagSays flag.Refused (stateRefusal s) _ refl (λ k. refl)
-  query-says Calls.in-progress = query-number flagSays flag.Refused (stateRefusal s) _ refl (λ k. refl)
-  query-says Calls.divider = query-number flagSays flag.Refused (stateRefusal s) _ refl (λ k. refl)
-  query-says Calls.double-speed = query-number flagSays flag.Refused (stateRefusal s) _ refl (λ k. refl)
-  query-says Calls.steps = query-number byteSays byte.Refused (stateRefusal s) _ refl (λ k. refl)
-  query-says Calls.bank = query-number byteSays byte.Refused (stateRefusal s) _ refl (λ k. refl)
-  query-says Calls.svbk = query-number byteSays byte.Refused (stateRefusal s) _ refl (λ k. refl)
+  query-says : (q : Query) → askedOf s q .number ≡ stateRefusal s
+  query-says q = ap (λ (x : Said). x .number) (asked-said s q)
 
   -- every call of H
   pub step-is : (c : Call) → step s c ≡ decided (numberOf s c) s (givenBy s c)
   unfolding step opens-calls opens-bus opens-numbers
   step-is (Calls.write a w n byte) =
-      by-answer (λ (x : DoneAnswer) t. plain (doneSays x) t) done.Refused (accessRefusal s n a) done.Done s _ _ refl refl
-  step-is (Calls.read a n) = by-number (accessRefusal s n a) s
+      by-answer (λ (x : DoneAnswer) t. plain (doneSays x) t) done.Refused (writeRefusal s n a) done.Done s _ _ refl refl
+  step-is (Calls.read a n) = by-number (readRefusal s n a) s
   step-is (Calls.fall i) = by-answer fellReads claim.Refused (fallRefusal s i) _ s _ _ refl refl
   step-is Calls.next-pair = by-answer handedReads pair.Refused (stateRefusal s) _ s _ _ (handed (nextByteOf (s .«vram_dma») .answer) _) refl
   step-is Calls.escape-drain = by-answer handedReads pair.Refused (stateRefusal s) _ s _ _ (handed (drainOf (s .«vram_dma») .answer) _) refl

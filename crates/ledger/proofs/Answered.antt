@@ -3,8 +3,8 @@
 use mathlib.Core.Path.{_≡_, refl, ap}
 use Rattle.console.specs.declared.Cgb.{Cgb}
 use Rattle.answers.specs.Answers.{Said, stateRefusal, tallySays, statusSays, claimSays, flagSays, byteSays}
-use Rattle.queries.specs.Query.{querySaid, tallyOf, statusOf, claimOf, flagOf, byteOf, parkWaits, requestStands, holdsCpu, seizesBus}
-use Rattle.queries.specs.Query.{switchInProgress, dividerRuns, atDoubleSpeed, cpuSteps, bankSelected, svbkWritten}
+use Rattle.engine.specs.Calls.{querySaid, tallyCallOf, statusCallOf, claimCallOf, flagOf, byteOf, parkWaits, requestStands, cpuHeld}
+use Rattle.engine.specs.Calls.{busSeized, switchInProgress, dividerRuns, atDoubleSpeed, cpuSteps, bankSelected, svbkWritten}
 use Rattle.answers.specs.declared.TallyAnswer.the-variants as tally
 use Rattle.answers.specs.declared.StatusAnswer.the-variants as status
 use Rattle.answers.specs.declared.ClaimAnswer.the-variants as claim
@@ -35,15 +35,15 @@ answered-is (by.by-svbk-register r m) = ap byteSays (m .told .is)
 
 module _ (s : Cgb) where
   pub some-answer : (q : Query) → Answered s q (askedOf s q)
-  unfolding askedOf querySaid tallyOf statusOf claimOf flagOf byteOf
+  unfolding askedOf querySaid tallyCallOf statusCallOf claimCallOf flagOf byteOf
   some-answer query.Tally =
-      by.by-tally (tallyOf s)
+      by.by-tally (tallyCallOf s)
       (record { exit = (s, tt); told = record { is = refl; says = says-number tallySays tally.Refused (stateRefusal s) _ _ refl (λ n. refl) } })
   some-answer query.Status =
-      by.by-vram-dma-status (statusOf s)
+      by.by-vram-dma-status (statusCallOf s)
       (record { exit = (s, tt); told = record { is = refl; says = says-number statusSays status.Refused (stateRefusal s) _ _ refl (λ n. refl) } })
   some-answer query.Claim =
-      by.by-vram-dma-claim (claimOf s)
+      by.by-vram-dma-claim (claimCallOf s)
       (record { exit = (s, tt); told = record { is = refl; says = says-number claimSays claim.Refused (stateRefusal s) _ _ refl (λ n. refl) } })
   some-answer query.ParkWaits =
       by.by-vram-dma-park-waits-for-fetch (flagOf s (parkWaits s))
@@ -52,10 +52,10 @@ module _ (s : Cgb) where
       by.by-vram-dma-request-standing (flagOf s (requestStands s))
       (record { exit = (s, tt); told = record { is = refl; says = says-number flagSays flag.Refused (stateRefusal s) _ _ refl (λ n. refl) } })
   some-answer query.HoldsCpu =
-      by.by-vram-dma-holds-cpu (flagOf s (holdsCpu s))
+      by.by-vram-dma-holds-cpu (flagOf s (cpuHeld s))
       (record { exit = (s, tt); told = record { is = refl; says = says-number flagSays flag.Refused (stateRefusal s) _ _ refl (λ n. refl) } })
   some-answer query.SeizesBus =
-      by.by-vram-dma-seizes-bus (flagOf s (seizesBus s))
+      by.by-vram-dma-seizes-bus (flagOf s (busSeized s))
       (record { exit = (s, tt); told = record { is = refl; says = says-number flagSays flag.Refused (stateRefusal s) _ _ refl (λ n. refl) } })
   some-answer query.SwitchInProgress =
       by.by-speed-switch-in-progress (flagOf s (switchInProgress s))

@@ -7,7 +7,7 @@ use Rattle.countdown.specs.Countdown.{ticked}
 use Rattle.console.specs.declared.vram_dma.VramDma.{VramDma}
 use Rattle.bus.specs.Commit.{Taken, nothing, pairsOf, holdsBus, setupStands, withCells, busTaken}
 use Rattle.bus.specs.declared.commit.BusInput.{BusInput}
-use Rattle.bus.proofs.Committed.{released, cell, moving}
+use Rattle.bus.proofs.Taken.{released, cell, moving}
 
 abbrev pub cellTaken : VramDma → Taken
 cellTaken d = record { dma = withCells (ticked (d .block .«setup_cells») .next) d; pairs = []; setup = true }

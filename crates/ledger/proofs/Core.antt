@@ -7,11 +7,11 @@ use Rattle.console.specs.Set.{withVramDma, withSwitchRelockDebit}
 use Rattle.console.specs.declared.Cgb.{Cgb}
 use Rattle.console.specs.declared.vram_dma.TransferCursor.{TransferCursor}
 use Rattle.console.specs.declared.vram_dma.VramDma.{VramDma}
-use Rattle.fall_edge.specs.declared.FallInput.{FallInput}
-use Rattle.fall_edge.proofs.Steps.{fall-steps}
-use Rattle.speed_switch.specs.Blackout.{drainedOf, wokenOf}
+use Rattle.fall_stages.specs.declared.FallInput.{FallInput}
+use Rattle.fall_stages.proofs.Steps.{fall-steps}
+use Rattle.blackout.specs.Blackout.{drainedOf, wokenOf}
 use Rattle.transfer.specs.Latch.{latchesDark, latchedOf, unclaimed, lcdDisabledOf}
-use Rattle.engine.specs.Fall.{fallen, fallenState}
+use Rattle.engine.specs.Calls.{fallen, fallenState}
 
 pub record Core : Type 0 where
   pub locked : Bool

@@ -16,19 +16,18 @@ use Rattle.console.specs.declared.vram_dma.TransferMode.{TransferMode}
 use Rattle.console.specs.declared.vram_dma.TransferMode.the-variants as mode
 use Rattle.console.specs.declared.vram_dma.VramDma.{VramDma}
 use Rattle.console.proofs.Reached as seven
-use Rattle.bus.specs.Commit.{after, takenOf, pairsOf, holdsBus, setupStands}
+use Rattle.bus.specs.Commit.{afterAnswer, takenOf, pairsOf, holdsBus, setupStands}
 use Rattle.bus.specs.declared.commit.BusInput.{BusInput}
-use Rattle.bus.proofs.Committed.{moving}
+use Rattle.bus.proofs.Taken.{moving}
 use Rattle.transfer.specs.Pair.{movingOf, quotaOf, leftAfter, cursorAfter, advancedOf}
 use Rattle.transfer.specs.Questions.{statusIn}
 use Rattle.transfer.specs.Questions as transfer
-use Rattle.transfer.specs.Steps.{Ready, Moved}
+use Rattle.transfer.specs.PairSteps.{Ready, Moved}
 use Rattle.transfer.specs.declared.VramDmaStatus.the-variants as dma
 use Rattle.transfer.specs.declared.pair.NextByte.{NextByte}
-use Rattle.transfer.proofs.Steps.{pair-steps, steps}
-use Rattle.fall_edge.proofs.Refills.{general-moves}
-use Rattle.bus_calls.specs.BusCall.{Lengths, busRefusal, busPairs}
-use Rattle.queries.specs.Query.{statusOf}
+use Rattle.transfer.proofs.PairSteps.{pair-steps, steps}
+use Rattle.fall_stages.proofs.Refills.{general-moves}
+use Rattle.engine.specs.Calls.{Lengths, busRefusal, busPairs, statusCallOf}
 use Rattle.answers.specs.Answers.{stateRefusal}
 use Rattle.answers.specs.declared.StatusAnswer.the-variants.{Status, Refused}
 use Rattle.ledger.specs.Demand3.{generalPairs}
@@ -39,8 +38,8 @@ general-mode mode.Idle c left h = cc
 general-mode mode.General c left h = refl
 general-mode mode.HBlank c left h = cc
 
-pub mode-of : (s : Cgb) (left : ℕ) → statusOf s ≡ Status (dma.General left) → s .«vram_dma» .cursor .mode ≡ mode.General
-unfolding statusOf transfer.statusOf
+pub mode-of : (s : Cgb) (left : ℕ) → statusCallOf s ≡ Status (dma.General left) → s .«vram_dma» .cursor .mode ≡ mode.General
+unfolding statusCallOf transfer.statusOf
 mode-of s left = by (eqb (stateRefusal s) 0)
   where
     by :
@@ -53,17 +52,17 @@ mode-of s left = by (eqb (stateRefusal s) 0)
 -- in mode General something is left
 left-of : (s : Cgb) → unreached s ≡ false → s .«vram_dma» .cursor .mode ≡ mode.General → 0 < s .«vram_dma» .cursor .remaining
 left-of s passes general =
-    ⊎-elim (λ none. absurd (false≢true (sym (ap isIdle general) ∙ seven.reached s passes .idle none))) (λ some. some)
+    ⊎-elim (λ none. absurd (false≢true (sym (ap isIdle general) ∙ seven.reached s passes .engine .idle none))) (λ some. some)
     (eq-zero-or-pos (s .«vram_dma» .cursor .remaining))
 
 take-some : (n : ℕ) (d : VramDma) → Ready d → length (takenOf (suc n) d .pairs) ≡ suc (length (takenOf n (advancedOf d) .pairs))
 unfolding takenOf
-take-some n d r = ap (λ (x : NextByte). length (after d (x .answer) (takenOf n (x .dma)) .pairs)) (steps d r)
+take-some n d r = ap (λ (x : NextByte). length (afterAnswer d (x .answer) (takenOf n (x .dma)) .pairs)) (steps d r)
 
 take-none : (n : ℕ) (d : VramDma) → movingOf d ≡ false → length (takenOf n d .pairs) ≡ 0
 unfolding takenOf
 take-none zero d h = refl
-take-none (suc n) d h = ap (λ (x : NextByte). length (after d (x .answer) (takenOf n (x .dma)) .pairs)) (pair-steps .not-moving d h)
+take-none (suc n) d h = ap (λ (x : NextByte). length (afterAnswer d (x .answer) (takenOf n (x .dma)) .pairs)) (pair-steps .not-moving d h)
 
 take-zero : (d : VramDma) → length (takenOf 0 d .pairs) ≡ 0
 unfolding takenOf

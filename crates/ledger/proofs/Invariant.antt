@@ -13,20 +13,21 @@ use Rattle.console.specs.declared.Cgb.{Cgb}
 use Rattle.console.specs.declared.vram_dma.TransferCursor.{TransferCursor}
 use Rattle.console.specs.declared.vram_dma.VramDma.{VramDma}
 use Rattle.console.proofs.Refusals.{NoneHolds}
-use Rattle.fall_edge.specs.declared.FallInput.{FallInput}
-use Rattle.fall_edge.proofs.Steps.{fall-steps}
-use Rattle.fall_edge.proofs.Refills.{refills}
-use Rattle.registers.specs.Write.{mapWriteOf}
-use Rattle.registers.specs.declared.WriteInput.{WriteInput}
-use Rattle.speed_switch.specs.Switch.{readyBlock, outcomeOf, ungranted, cutOf, discardedOf, gradedOf, upwardOf, engineAfter, switchedOf}
+use Rattle.fall_stages.specs.declared.FallInput.{FallInput}
+use Rattle.fall_stages.proofs.Steps.{fall-steps}
+use Rattle.fall_stages.proofs.Refills.{refills}
+use Rattle.map_write.specs.Write.{mapWriteOf}
+use Rattle.map_write.specs.declared.WriteInput.{WriteInput}
+use Rattle.cut.specs.Cut.{readyBlock, outcomeOf, ungranted, cutOf, discardedOf, gradedOf, upwardOf, engineAfter}
+use Rattle.speed_switch.specs.Switch.{switchedOf}
 use Rattle.speed_switch.specs.declared.switch.SwitchInput.{SwitchInput}
-use Rattle.speed_switch.specs.declared.switch.SwitchOutcome.the-variants.{None, Discarded, Cut}
+use Rattle.cut.specs.declared.SwitchOutcome.the-variants.{None, Discarded, Cut}
 use Rattle.transfer.specs.Pair.{movingOf, quotaOf, drainOf}
 use Rattle.transfer.specs.declared.pair.BytePair.{BytePair}
 use Rattle.transfer.specs.declared.pair.NextAnswer.the-variants as next
 use Rattle.transfer.specs.declared.pair.NextByte.{NextByte}
-use Rattle.transfer.proofs.Steps.{pair-steps}
-use Rattle.engine.specs.Fall.{fallen, fallenState}
+use Rattle.transfer.proofs.PairSteps.{pair-steps}
+use Rattle.engine.specs.Calls.{fallen, fallenState}
 use Rattle.ledger.specs.LedgerInput.{Configuration, LedgerInput, a-write, a-fall, a-switch, a-drain, another, Reply, accepts, isFall, isDrain}
 use Rattle.ledger.specs.Ledger.{Ledger, afterCut, effect, afterPairs, afterCall}
 use Rattle.ledger.specs.Calls

@@ -6,14 +6,15 @@ use Rattle.console.specs.Set.{withVramDma}
 use Rattle.console.specs.declared.Cgb.{Cgb}
 use Rattle.console.specs.declared.vram_dma.VramDma.{VramDma}
 use Rattle.console.proofs.Reached as seven
-use Rattle.fall_edge.proofs.Sound.{fall-sound}
-use Rattle.registers.proofs.Keeps as map
-use Rattle.speed_switch.specs.Blackout.{drainedOf, wokenOf}
-use Rattle.speed_switch.specs.Switch.{engineAfter, switchedOf}
-use Rattle.speed_switch.proofs.Sound.{switch-sound}
+use Rattle.fall_stages.proofs.Sound.{fall-sound}
+use Rattle.map_write.proofs.Keeps as map
+use Rattle.blackout.specs.Blackout.{drainedOf, wokenOf}
+use Rattle.cut.specs.Cut.{engineAfter}
+use Rattle.speed_switch.specs.Switch.{switchedOf}
+use Rattle.cut.proofs.Sound.{switch-sound}
 use Rattle.transfer.proofs.Sound.{next-sound, drain-sound, lcd-sound, retired-sound}
 use Rattle.bus.proofs.Sound.{bus-sound}
-use Rattle.engine.specs.Fall.{fallen, fallenState}
+use Rattle.engine.specs.Calls.{fallen, fallenState}
 use Rattle.ledger.specs.Calls
 use Rattle.ledger.specs.Calls.{Call, Outcome, step}
 use Rattle.ledger.proofs.AcceptedOrDeclined.{givenBy, either-way}

@@ -8,6 +8,6 @@ pub mod Writes
 pub mod Invariant
 pub mod Tied
 pub mod General
-pub mod AnswerValues
 pub mod OneRun
 pub mod Theorem
+pub mod Answered

@@ -9,16 +9,10 @@ use denote.Ref.{RefT, now}
 use Rattle.console.specs.PowerOn.{powerOnOf}
 use Rattle.console.specs.declared.Cgb.{Cgb}
 use Rattle.bus.specs.declared.commit.BusInput.{BusInput}
-use Rattle.registers.specs.declared.WriteInput.{WriteInput}
-use Rattle.bus_calls.specs.Access.{readOf, writeOf, writeWram}
-use Rattle.bus_calls.specs.Bus.{arbitrationCallOf, conflictCallOf}
-use Rattle.bus_calls.specs.BusCall.{lengthsOf, busOf, busVram, busOam}
-use Rattle.engine.specs.Fall.{fallCallOf}
-use Rattle.engine.specs.Lcd.{lcdCallOf, retiredCallOf}
-use Rattle.engine.specs.Pair.{nextPairOf, escapeDrainOf}
-use Rattle.queries.specs.Query.{flagOf, byteOf, tallyOf, statusOf, claimOf, parkWaits, requestStands, holdsCpu, seizesBus}
-use Rattle.queries.specs.Query.{switchInProgress, dividerRuns, atDoubleSpeed, cpuSteps, bankSelected, svbkWritten}
-use Rattle.engine.specs.Speed.{switchCallOf, blackoutCallOf, wakeCallOf}
+use Rattle.map_write.specs.declared.WriteInput.{WriteInput}
+use Rattle.engine.specs.Calls.{readOf, writeOf, writeWram, fallCallOf, nextPairOf, lengthsOf, busVram, busOam, busOf, arbitrationCallOf}
+use Rattle.engine.specs.Calls.{switchCallOf, blackoutCallOf, wakeCallOf, escapeDrainOf, lcdCallOf, retiredCallOf, conflictCallOf}
+use Rattle.ledger.proofs.Answered.{some-answer}
 use Rattle.ledger.specs.Calls
 use Rattle.ledger.specs.Calls.{Call, Outcome, step}
 use Rattle.ledger.specs.Code
@@ -27,7 +21,7 @@ use Rattle.ledger.specs.LedgerInput.{Configuration}
 use Rattle.ledger.specs.Demand3.{History, from-power-on, then, RunsTo, at-power-on, called}
 use Rattle.ledger.specs.OneRun.{configurationOf, callsOf, RunOf, OneRun}
 use Rattle.ledger.proofs.Tied.{returned-step}
-use Rattle.ledger.proofs.AnswerValues as told
+use Rattle.engine.proofs.Says as told
 
 -- a slice of these bytes
 slice : List ℕ → RefT (List ℕ)
@@ -113,38 +107,7 @@ module _ (s : Cgb) where
       some-by (Code.by-arbitrate i (arbitrationCallOf s i) (record { exit = (s, (i, tt)); told = record { is = refl; says = told.arbitrate-told s i } }))
   some-call (Calls.conflict a) =
       some-by (Code.by-conflict a (conflictCallOf s a) (record { exit = (s, (a, tt)); told = record { is = refl; says = told.conflict-told s a } }))
-  some-call (Calls.query Calls.tally) =
-      some-by (Code.by-tally (tallyOf s) (record { exit = (s, tt); told = record { is = refl; says = told.tally-told s } }))
-  some-call (Calls.query Calls.status) =
-      some-by (Code.by-status (statusOf s) (record { exit = (s, tt); told = record { is = refl; says = told.status-told s } }))
-  some-call (Calls.query Calls.claim) =
-      some-by (Code.by-claim (claimOf s) (record { exit = (s, tt); told = record { is = refl; says = told.claim-told s } }))
-  some-call (Calls.query Calls.park) =
-      some-by (Code.by-park (flagOf s (parkWaits s)) (record { exit = (s, tt); told = record { is = refl; says = told.flag-told s (parkWaits s) } }))
-  some-call (Calls.query Calls.request) =
-      some-by
-      (Code.by-request (flagOf s (requestStands s))
-      (record { exit = (s, tt); told = record { is = refl; says = told.flag-told s (requestStands s) } }))
-  some-call (Calls.query Calls.holds) =
-      some-by (Code.by-holds (flagOf s (holdsCpu s)) (record { exit = (s, tt); told = record { is = refl; says = told.flag-told s (holdsCpu s) } }))
-  some-call (Calls.query Calls.seizes) =
-      some-by (Code.by-seizes (flagOf s (seizesBus s)) (record { exit = (s, tt); told = record { is = refl; says = told.flag-told s (seizesBus s) } }))
-  some-call (Calls.query Calls.in-progress) =
-      some-by
-      (Code.by-in-progress (flagOf s (switchInProgress s))
-      (record { exit = (s, tt); told = record { is = refl; says = told.flag-told s (switchInProgress s) } }))
-  some-call (Calls.query Calls.divider) =
-      some-by (Code.by-divider (flagOf s (dividerRuns s)) (record { exit = (s, tt); told = record { is = refl; says = told.flag-told s (dividerRuns s) } }))
-  some-call (Calls.query Calls.double-speed) =
-      some-by
-      (Code.by-double-speed (flagOf s (atDoubleSpeed s))
-      (record { exit = (s, tt); told = record { is = refl; says = told.flag-told s (atDoubleSpeed s) } }))
-  some-call (Calls.query Calls.steps) =
-      some-by (Code.by-steps (byteOf s (cpuSteps s)) (record { exit = (s, tt); told = record { is = refl; says = told.byte-told s (cpuSteps s) } }))
-  some-call (Calls.query Calls.bank) =
-      some-by (Code.by-bank (byteOf s (bankSelected s)) (record { exit = (s, tt); told = record { is = refl; says = told.byte-told s (bankSelected s) } }))
-  some-call (Calls.query Calls.svbk) =
-      some-by (Code.by-svbk (byteOf s (svbkWritten s)) (record { exit = (s, tt); told = record { is = refl; says = told.byte-told s (svbkWritten s) } }))
+  some-call (Calls.query q) = some-by (Code.by-query q _ (some-answer s q))
 
 some : (k : Configuration) (calls : List Call) → RunOf k calls
 some k [] =

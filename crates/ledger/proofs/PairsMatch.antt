@@ -10,15 +10,15 @@ use lib.Dec.{ltb, eqb, lit<}
 use lib.ListN.{length}
 use borrow.Author.Tests.{ltb-true, ltb-false, eqb-true, eqb-false}
 use Rattle.console.specs.declared.vram_dma.VramDma.{VramDma}
-use Rattle.bus.specs.Commit.{Taken, after, takenOf, pairsOf, busTaken}
+use Rattle.bus.specs.Commit.{Taken, afterAnswer, takenOf, pairsOf, busTaken}
 use Rattle.bus.specs.declared.commit.BusInput.{BusInput}
 use Rattle.transfer.specs.Pair.{movingOf, pairOf, advancedOf, nextByteOf, withQuota, drainOf}
-use Rattle.transfer.specs.Steps.{Ready, Moved}
+use Rattle.transfer.specs.PairSteps.{Ready, Moved}
 use Rattle.transfer.specs.declared.pair.BytePair.{BytePair}
 use Rattle.transfer.specs.declared.pair.NextAnswer.{NextAnswer}
 use Rattle.transfer.specs.declared.pair.NextAnswer.the-variants as next
 use Rattle.transfer.specs.declared.pair.NextByte.{NextByte}
-use Rattle.transfer.proofs.Steps.{pair-steps, steps}
+use Rattle.transfer.proofs.PairSteps.{pair-steps, steps}
 use Rattle.ledger.specs.LedgerInput.{Configuration}
 use Rattle.ledger.specs.Ledger.{Ledger, IsNext, afterPair, afterPairs}
 use Rattle.ledger.specs.Demand3.{NextPairs, no-more, one-more, Balanced}
@@ -169,7 +169,7 @@ taken-match (suc n) k locked d l m =
         (a : NextAnswer) → PairsMatch k locked l (d .cursor .quota) (answer.pairOf a) (nextByteOf d .dma) →
         (Match k (under locked (nextByteOf d .dma .cursor)) (afterPair l) →
         PairsMatch k locked (afterPair l) (nextByteOf d .dma .cursor .quota) (takenOf n (nextByteOf d .dma) .pairs) (takenOf n (nextByteOf d .dma) .dma)) →
-        (let t = after d a (takenOf n (nextByteOf d .dma)) in PairsMatch k locked l (d .cursor .quota) (t .pairs) (t .dma))
+        (let t = afterAnswer d a (takenOf n (nextByteOf d .dma)) in PairsMatch k locked l (d .cursor .quota) (t .pairs) (t .dma))
     by (next.Pair p) one rest =
         let more = rest (one .agree) in
         let q1 = one .quota in

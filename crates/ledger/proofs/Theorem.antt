@@ -14,8 +14,7 @@ use Rattle.bus.specs.declared.commit.BusInput.{BusInput}
 use Rattle.transfer.specs.Pair.{movingOf, quotaOf}
 use Rattle.transfer.specs.declared.VramDmaStatus.the-variants as dma
 use Rattle.transfer.specs.declared.pair.BytePair.{BytePair}
-use Rattle.bus_calls.specs.BusCall.{Lengths, busRefusal}
-use Rattle.queries.specs.Query.{statusOf}
+use Rattle.engine.specs.Calls.{Lengths, busRefusal, statusCallOf}
 use Rattle.answers.specs.declared.StatusAnswer.the-variants.{Status}
 use Rattle.ledger.specs.LedgerInput.{Configuration, accepts, isFall}
 use Rattle.ledger.specs.Ledger.{Ledger, empty, effect}
@@ -136,7 +135,7 @@ fresh h f s (called {s = t} c o r returned) =
 pub at-bus :
     (s : Cgb) → unreached s ≡ false → quota s ≡ quotaOf (movingOf (s .«vram_dma»)) (s .«double_speed») →
     (i : BusInput) (n : Lengths) (o : Outcome) → Returned s (bus-call i n) o → accepts (o .reply) ≡ true →
-    holdsBus i ≡ true → (left : ℕ) → statusOf s ≡ Status (dma.General left) → setupStands (s .«vram_dma») ≡ false →
+    holdsBus i ≡ true → (left : ℕ) → statusCallOf s ≡ Status (dma.General left) → setupStands (s .«vram_dma») ≡ false →
     length (o .reply .pairs) ≡ generalPairs s
 unfolding step
 at-bus s passes q i n o r accepted held left general no-cell =

@@ -14,29 +14,22 @@ use Rattle.console.specs.declared.vram_dma.VramDma.{VramDma}
 use Rattle.console.specs.Refusals.{_⇒_}
 use Rattle.console.proofs.Reached as seven
 use Rattle.console.proofs.Refusals.{none-holds}
-use Rattle.bus.specs.Commit.{Taken, after, takenOf, pairsOf, busTaken, firstTwo}
+use Rattle.bus.specs.Commit.{Taken, afterAnswer, takenOf, pairsOf, busTaken, firstTwo}
 use Rattle.bus.specs.declared.commit.BusInput.{BusInput}
 use Rattle.transfer.specs.Pair.{nextByteOf}
 use Rattle.transfer.specs.declared.pair.NextAnswer.{NextAnswer}
 use Rattle.transfer.specs.declared.pair.NextAnswer.the-variants as next
 use Rattle.bus.specs.Deposit.{noPair}
-use Rattle.bus_calls.specs.Access.{readSaid}
-use Rattle.answers.specs.Answers.{Said, busSays, byteSays, flagSays, tallySays, statusSays, claimSays, conflictSays}
-use Rattle.bus_calls.specs.BusCall.{Lengths, lengthsOf, busRefusal, takenIn, busPairs, busAnswer, busState, busOf}
+use Rattle.engine.specs.Calls.{readSaid, Lengths, lengthsOf, takenIn, busRefusal, busPairs, busAnswer, busState, busOf}
+use Rattle.answers.specs.Answers.{Said, busSays, conflictSays}
 use Rattle.answers.specs.declared.BusAnswer.the-variants.{Moved, Refused}
-use Rattle.answers.specs.declared.ByteAnswer.{ByteAnswer}
-use Rattle.answers.specs.declared.ClaimAnswer.{ClaimAnswer}
 use Rattle.answers.specs.declared.ConflictAnswer.{ConflictAnswer}
-use Rattle.answers.specs.declared.FlagAnswer.{FlagAnswer}
-use Rattle.answers.specs.declared.StatusAnswer.{StatusAnswer}
-use Rattle.answers.specs.declared.TallyAnswer.{TallyAnswer}
+use Rattle.ledger.proofs.Answered.{answered-is}
 use Rattle.ledger.specs.Calls
 use Rattle.ledger.specs.Calls.{Call, Outcome, handing, plain, ofDone, ofFlagged, ofFell, ofArbitrated, ofHanded, ofSwitched}
 use Rattle.ledger.specs.Calls.{ofBussed, movedIn, step}
 use Rattle.ledger.specs.Code.{Returned, by-write, by-read, by-fall, by-next-pair, by-escape-drain, by-bus-call, by-switch-speed}
-use Rattle.ledger.specs.Code.{by-lcd-off, by-retired, by-blackout, by-wake, by-arbitrate, by-conflict, by-tally, by-status, by-claim}
-use Rattle.ledger.specs.Code.{by-park, by-request, by-holds, by-seizes, by-in-progress, by-divider, by-double-speed, by-steps}
-use Rattle.ledger.specs.Code.{by-bank, by-svbk}
+use Rattle.ledger.specs.Code.{by-lcd-off, by-retired, by-blackout, by-wake, by-arbitrate, by-conflict, by-query}
 use Rattle.ledger.proofs.AcceptedOrDeclined.{reasonsOf}
 use Rattle.ledger.proofs.BusKinds.{of-each}
 
@@ -46,7 +39,7 @@ unfolding takenOf
 taken-count zero d = omega arith
 taken-count (suc n) d = by (nextByteOf d .answer) (taken-count n (nextByteOf d .dma))
   where
-    by : (a : NextAnswer) → length (takenOf n (nextByteOf d .dma) .pairs) ≤ n → length (after d a (takenOf n (nextByteOf d .dma)) .pairs) ≤ suc n
+    by : (a : NextAnswer) → length (takenOf n (nextByteOf d .dma) .pairs) ≤ n → length (afterAnswer d a (takenOf n (nextByteOf d .dma)) .pairs) ≤ suc n
     by (next.Pair p) h = omega arith
     by next.None h = omega arith
 
@@ -68,7 +61,7 @@ module _ (s : Cgb) (i : BusInput) (n : Lengths) where
   unfolding busRefusal
   accepted-pairs none =
       let passes = none-holds ((unreached s ⇒ 7) ∷ reasonsOf s (Calls.bus-call i n)) refl none .0 in
-      omega (arith, bus-count i (s .«vram_dma»), seven.reached s passes .quota)
+      omega (arith, bus-count i (s .«vram_dma»), seven.reached s passes .engine .quota)
 
   bus-reply :
       _≡_ {A = Outcome}
@@ -106,16 +99,4 @@ returned-step (by-blackout elapsed r m) = ap ofFlagged (m .told .is)
 returned-step (by-wake boundary r m) = ap ofFlagged (m .told .is)
 returned-step (by-arbitrate i r m) = ap ofArbitrated (m .told .is)
 returned-step {s = s} (by-conflict a r m) = ap (λ (x : ConflictAnswer). plain (conflictSays x) s) (m .told .is)
-returned-step {s = s} (by-tally r m) = ap (λ (x : TallyAnswer). plain (tallySays x) s) (m .told .is)
-returned-step {s = s} (by-status r m) = ap (λ (x : StatusAnswer). plain (statusSays x) s) (m .told .is)
-returned-step {s = s} (by-claim r m) = ap (λ (x : ClaimAnswer). plain (claimSays x) s) (m .told .is)
-returned-step {s = s} (by-park r m) = ap (λ (x : FlagAnswer). plain (flagSays x) s) (m .told .is)
-returned-step {s = s} (by-request r m) = ap (λ (x : FlagAnswer). plain (flagSays x) s) (m .told .is)
-returned-step {s = s} (by-holds r m) = ap (λ (x : FlagAnswer). plain (flagSays x) s) (m .told .is)
-returned-step {s = s} (by-seizes r m) = ap (λ (x : FlagAnswer). plain (flagSays x) s) (m .told .is)
-returned-step {s = s} (by-in-progress r m) = ap (λ (x : FlagAnswer). plain (flagSays x) s) (m .told .is)
-returned-step {s = s} (by-divider r m) = ap (λ (x : FlagAnswer). plain (flagSays x) s) (m .told .is)
-returned-step {s = s} (by-double-speed r m) = ap (λ (x : FlagAnswer). plain (flagSays x) s) (m .told .is)
-returned-step {s = s} (by-steps r m) = ap (λ (x : ByteAnswer). plain (byteSays x) s) (m .told .is)
-returned-step {s = s} (by-bank r m) = ap (λ (x : ByteAnswer). plain (byteSays x) s) (m .told .is)
-returned-step {s = s} (by-svbk r m) = ap (λ (x : ByteAnswer). plain (byteSays x) s) (m .told .is)
+returned-step {s = s} (by-query q said m) = ap (λ (x : Said). plain x s) (answered-is m)

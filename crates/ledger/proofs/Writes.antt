@@ -10,10 +10,10 @@ use Rattle.hdma.specs.Hdma5.{lengthOf}
 use Rattle.hdma.specs.Pointers.{withHigh, withLow}
 use Rattle.hdma.proofs.Written as hdma
 use Rattle.registers.specs.Map.{KEY0, KEY1, VBK, HDMA1, HDMA2, HDMA3, HDMA4, HDMA5, SVBK, FF72, FF73, FF74, FF75}
-use Rattle.registers.specs.Map.{Place, workRam, bankedRam, extraOam, register, unmapped, placeOf, within, isMapped, locks, locksAt}
-use Rattle.registers.specs.Write.{withSource, withDest, stateAt, storedOf, mapWriteOf}
-use Rattle.registers.specs.declared.MapWritten.{MapWritten}
-use Rattle.registers.specs.declared.WriteInput.{WriteInput}
+use Rattle.registers.specs.Map.{Place, workRam, bankedRam, extraOam, register, unmapped, placeOf, within, writable, locks, locksAt}
+use Rattle.map_write.specs.Write.{withSource, withDest, stateAt, storedOf, mapWriteOf}
+use Rattle.map_write.specs.declared.MapWritten.{MapWritten}
+use Rattle.map_write.specs.declared.WriteInput.{WriteInput}
 use Rattle.ledger.specs.LedgerInput.{Configuration}
 use Rattle.ledger.specs.Ledger.{Ledger, highByte, lowByte, withPointers, afterWrite}
 use Rattle.ledger.specs.Ledger.{Followed, source-high, source-low, dest-high, dest-low, transfer-length, elsewhere, followed}
@@ -216,7 +216,7 @@ module _ (k : Configuration) (s : Cgb) (w : WriteInput) (byte : w .value < 256) 
     where
       by :
           (d c lock : Bool) → s .«dmg_compat» ≡ d → d ≡ c → locks (placeOf a) ≡ lock →
-          (let t : MapWritten = cond {A = MapWritten} (d && lock) (record { mapped = isMapped (placeOf a); state = s }) (storedOf s w a) in
+          (let t : MapWritten = cond {A = MapWritten} (d && lock) (record { mapped = writable (placeOf a); state = s }) (storedOf s w a) in
           WriteMatch k s (t .state) (cond c l (afterWrite (followed a) (w .value) l)))
       by true true true e f g = kept s refl refl
       by true true false e f g =

@@ -9,25 +9,18 @@ use lib.ListN.{take}
 use Rattle.console.specs.declared.Cgb.{Cgb}
 use Rattle.bus.specs.declared.arbitration.ArbitrationInput.{ArbitrationInput}
 use Rattle.bus.specs.declared.commit.BusInput.{BusInput}
-use Rattle.fall_edge.specs.declared.FallInput.{FallInput}
-use Rattle.registers.specs.declared.WriteInput.{WriteInput}
+use Rattle.fall_stages.specs.declared.FallInput.{FallInput}
+use Rattle.map_write.specs.declared.WriteInput.{WriteInput}
 use Rattle.speed_switch.specs.declared.switch.SwitchInput.{SwitchInput}
 use Rattle.transfer.specs.declared.pair.BytePair.{BytePair}
-use Rattle.bus_calls.specs.Access.{accessRefusal, writeOf}
-use Rattle.answers.specs.Answers.{Said, doneStateSays, flaggedSays, handedSays, fellSays, switchedSays, arbitratedSays, bussedSays}
-use Rattle.answers.specs.Answers.{byteSays, flagSays, tallySays, statusSays, claimSays, conflictSays}
-use Rattle.bus_calls.specs.Bus.{arbitrationCallOf, conflictCallOf}
-use Rattle.bus_calls.specs.BusCall.{Lengths, busRefusal, busPairs, busState}
-use Rattle.engine.specs.Fall.{fallCallOf}
-use Rattle.engine.specs.Lcd.{lcdCallOf, retiredCallOf}
-use Rattle.engine.specs.Pair.{nextPairOf, escapeDrainOf}
-use Rattle.queries.specs.Query.{flagOf, byteOf, tallyOf, statusOf, claimOf, parkWaits, requestStands, holdsCpu, seizesBus}
-use Rattle.queries.specs.Query.{switchInProgress, dividerRuns, atDoubleSpeed, cpuSteps, bankSelected, svbkWritten}
-use Rattle.engine.specs.Speed.{switchCallOf, blackoutCallOf, wakeCallOf}
+use Rattle.engine.specs.Calls.{readRefusal, writeOf, fallCallOf, nextPairOf, Lengths, busRefusal, busPairs, busState, arbitrationCallOf}
+use Rattle.engine.specs.Calls.{switchCallOf, blackoutCallOf, wakeCallOf, escapeDrainOf, lcdCallOf, retiredCallOf, conflictCallOf}
+use Rattle.answers.specs.Answers.{Said, doneStateSays, flaggedSays, handedSays, fellSays, switchedSays, arbitratedSays, busOutcomeSays}
+use Rattle.answers.specs.Answers.{conflictSays}
 use Rattle.answers.specs.declared.Arbitrated.{Arbitrated}
 use Rattle.answers.specs.declared.BusAnswer.{BusAnswer}
 use Rattle.answers.specs.declared.BusAnswer.the-variants as bus
-use Rattle.answers.specs.declared.Bussed.{Bussed}
+use Rattle.answers.specs.declared.BusOutcome.{BusOutcome}
 use Rattle.answers.specs.declared.ClaimAnswer.{ClaimAnswer}
 use Rattle.answers.specs.declared.ClaimAnswer.the-variants as claimed
 use Rattle.answers.specs.declared.Done.{Done}
@@ -39,11 +32,9 @@ use Rattle.answers.specs.declared.PairAnswer.the-variants as pair
 use Rattle.answers.specs.declared.SwitchAnswer.{SwitchAnswer}
 use Rattle.answers.specs.declared.SwitchAnswer.the-variants as switch
 use Rattle.answers.specs.declared.Switched.{Switched}
+use Rattle.ask.specs.Ask.{askedOf}
+pub use Rattle.call.specs.declared.query.Query.{Query}
 use Rattle.ledger.specs.LedgerInput.{LedgerInput, a-write, a-fall, a-switch, a-drain, another, Reply}
-
--- what is asked of the state and changes nothing
-pub data Query : Type 0 where
-  tally status claim park request holds seizes in-progress divider double-speed steps bank svbk : Query
 
 -- the inputs of each call; a value written is a byte
 pub data Call : Type 0 where
@@ -114,29 +105,13 @@ abbrev pub movedIn : BusAnswer → List BytePair → List BytePair
 movedIn (bus.Moved count setup) ps = take count ps
 movedIn (bus.Refused n) ps = []
 
-abbrev pub ofBussed : Bussed → Outcome
-ofBussed r = record { reply = handing (bussedSays r .number) (movedIn (r .answer) (r .pairs)); state = r .state }
-
--- what a query says
-abbrev pub asked : Cgb → Query → Said
-asked s tally = tallySays (tallyOf s)
-asked s status = statusSays (statusOf s)
-asked s claim = claimSays (claimOf s)
-asked s park = flagSays (flagOf s (parkWaits s))
-asked s request = flagSays (flagOf s (requestStands s))
-asked s holds = flagSays (flagOf s (holdsCpu s))
-asked s seizes = flagSays (flagOf s (seizesBus s))
-asked s in-progress = flagSays (flagOf s (switchInProgress s))
-asked s divider = flagSays (flagOf s (dividerRuns s))
-asked s double-speed = flagSays (flagOf s (atDoubleSpeed s))
-asked s steps = byteSays (byteOf s (cpuSteps s))
-asked s bank = byteSays (byteOf s (bankSelected s))
-asked s svbk = byteSays (byteOf s (svbkWritten s))
+abbrev pub ofBussed : BusOutcome → Outcome
+ofBussed r = record { reply = handing (busOutcomeSays r .number) (movedIn (r .answer) (r .pairs)); state = r .state }
 
 -- one call, at the state s
 unfoldable pub step : Cgb → Call → Outcome
 step s (write a w n byte) = ofDone (writeOf s w a n)
-step s (read a n) = record { reply = handing (accessRefusal s n a) []; state = s }
+step s (read a n) = record { reply = handing (readRefusal s n a) []; state = s }
 step s (fall i) = ofFell (fallCallOf s i)
 step s next-pair = ofHanded (nextPairOf s)
 step s escape-drain = ofHanded (escapeDrainOf s)
@@ -148,7 +123,7 @@ step s (blackout elapsed) = ofFlagged (blackoutCallOf s elapsed)
 step s (wake boundary) = ofFlagged (wakeCallOf s boundary)
 step s (arbitrate i) = ofArbitrated (arbitrationCallOf s i)
 step s (conflict a) = plain (conflictSays (conflictCallOf s a)) s
-step s (query q) = plain (asked s q) s
+step s (query q) = plain (askedOf s q) s
 
 -- what the ledger and demand 3 read of it
 unfoldable pub ledgerInput : Call → LedgerInput

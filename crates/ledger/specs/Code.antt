@@ -10,13 +10,13 @@ use lib.ListN.{length}
 use Rattle.console.specs.declared.Cgb.{Cgb}
 use Rattle.bus.specs.declared.arbitration.ArbitrationInput.{ArbitrationInput}
 use Rattle.bus.specs.declared.commit.BusInput.{BusInput}
-use Rattle.fall_edge.specs.declared.FallInput.{FallInput}
-use Rattle.registers.specs.declared.WriteInput.{WriteInput}
+use Rattle.fall_stages.specs.declared.FallInput.{FallInput}
+use Rattle.map_write.specs.declared.WriteInput.{WriteInput}
 use Rattle.speed_switch.specs.declared.switch.SwitchInput.{SwitchInput}
 use Rattle.answers.specs.Answers.{Said, byteSays, conflictSays}
-use Rattle.bus_calls.specs.BusCall.{lengthsOf}
+use Rattle.engine.specs.Calls.{lengthsOf}
 use Rattle.answers.specs.declared.Arbitrated.{Arbitrated}
-use Rattle.answers.specs.declared.Bussed.{Bussed}
+use Rattle.answers.specs.declared.BusOutcome.{BusOutcome}
 use Rattle.answers.specs.declared.ByteAnswer.{ByteAnswer}
 use Rattle.answers.specs.declared.ConflictAnswer.{ConflictAnswer}
 use Rattle.answers.specs.declared.Done.{Done}
@@ -51,7 +51,7 @@ pub data Returned (s : Cgb) : Call → Outcome → Type 0 where
   by-next-pair : (r : Handed) → Gives next-byte tt (s, tt) r → Returned s Calls.next-pair (ofHanded r)
   by-escape-drain : (r : Handed) → Gives vram-dma-drain-escape tt (s, tt) r → Returned s Calls.escape-drain (ofHanded r)
   by-bus-call :
-      (κs : Lfts 4) (i : BusInput) (cartridge wram vram oam : RefT (List ℕ)) (r : Bussed) →
+      (κs : Lfts 4) (i : BusInput) (cartridge wram vram oam : RefT (List ℕ)) (r : BusOutcome) →
       Gives vram-dma-commit-bytes κs (s, (i, (cartridge, (wram, (vram, (oam, tt)))))) r →
       Returned s (Calls.bus-call i (lengthsOf (now cartridge) (now wram) (now vram) (now oam))) (ofBussed r)
   by-switch-speed : (i : SwitchInput) (r : Switched) → Gives attempt-speed-switch tt (s, (i, tt)) r → Returned s (Calls.switch-speed i) (ofSwitched r)

@@ -12,8 +12,7 @@ use Rattle.bus.specs.declared.commit.BusInput.{BusInput}
 use Rattle.transfer.specs.Pair.{leftAfter}
 use Rattle.transfer.specs.declared.VramDmaStatus.the-variants as dma
 use Rattle.transfer.specs.declared.pair.BytePair.{BytePair}
-use Rattle.bus_calls.specs.BusCall.{Lengths}
-use Rattle.queries.specs.Query.{statusOf, atDoubleSpeed}
+use Rattle.engine.specs.Calls.{Lengths, statusCallOf, atDoubleSpeed}
 use Rattle.answers.specs.declared.StatusAnswer.the-variants.{Status}
 use Rattle.ledger.specs.LedgerInput.{Configuration, Reply, accepts, isFall, isDrain}
 use Rattle.ledger.specs.Ledger.{Ledger, empty, IsNext, afterPair, effect, afterCall}
@@ -99,7 +98,7 @@ pub record Demand3 : Type 0 where
   pub general :
       (h : History) (f : Event) (s : Cgb) → RunsTo (then h f) s → acceptedFall f ≡ true →
       (i : BusInput) (n : Lengths) (o : Outcome) → Returned s (bus-call i n) o → accepts (o .reply) ≡ true →
-      holdsBus i ≡ true → (left : ℕ) → statusOf s ≡ Status (dma.General left) → setupStands (s .«vram_dma») ≡ false →
+      holdsBus i ≡ true → (left : ℕ) → statusCallOf s ≡ Status (dma.General left) → setupStands (s .«vram_dma») ≡ false →
       length (o .reply .pairs) ≡ generalPairs s
   -- besides: the pointers and the owed escape are the ledger's too, the pointers are 16-bit registers, and no run meets refusal 7
   pub same-pointers :

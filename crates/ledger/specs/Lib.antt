@@ -4,3 +4,6 @@ pub mod Calls
 pub mod Code
 pub mod Demand3
 pub mod OneRun
+pub mod Function
+pub mod Functions
+pub mod Answered

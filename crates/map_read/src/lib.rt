@@ -1,8 +1,8 @@
 // Reads of the address map (registers.rs, `map_read_byte`): a choice by address.
 ghost use mathlib.Core.Path.{_≡_};
 ghost use Rattle.map_read.specs.Read.{key1Byte, registerReadOf, mapReadOf};
+use arithmetic::pick::pick8;
 use console::Cgb;
-use countdown::pick::pick8;
 use hdma::hdma5;
 use memory::byte_at;
 use registers::WramIndex;

@@ -1,8 +1,9 @@
 -- A write keeps what refusal 7 tests: a state that passes is followed by one that passes. Assumes nothing.
-use Prim.Native.Nat.{ℕ}
+use Prim.Native.Nat.{ℕ, _%_}
 use native.Mathlib.Omega.{arith}
 use mathlib.Core.Path.{_∙_, sym}
 use mathlib.Core.Bool.{Bool, true, false, cond}
+use Rattle.console.proofs.Reached as seven
 use Rattle.console.specs.Reached.{Reached}
 use Rattle.console.specs.Set.{withVramDma}
 use Rattle.console.specs.declared.Cgb.{Cgb}
@@ -17,27 +18,26 @@ use Rattle.map_write.specs.declared.WriteInput.{WriteInput}
 length-written : (s : Cgb) (v : ℕ) (lcd : Bool) → Reached s → Reached (withVramDma (hdma5Written v lcd (s .«vram_dma»)) s)
 length-written s v lcd r =
     let k : Kept (lengthOf v) (s .«vram_dma») (hdma5Written v lcd (s .«vram_dma»)) = keeps v lcd (s .«vram_dma») in
-    record {
-      quota = rw (k .quota) (r .quota);
-      block = k .block (r .block);
+    seven.reached-with s (hdma5Written v lcd (s .«vram_dma»)) r
+    (record {
+      quota = rw (k .quota) (r .engine .quota);
+      block = k .block (r .engine .block);
       left = rw (k .left) (omega arith);
-      svbk = r .svbk;
-      bank = r .bank;
       idle = λ none. absurd (omega (arith, sym (k .left) ∙ none));
-    }
+    })
 
 register-keeps : (s : Cgb) (w : WriteInput) (g : Register) → Reached s → Reached (registerWritten s w g)
 register-keeps s w KEY0 r = r
 register-keeps s w KEY1 r = r
 register-keeps s w VBK r =
-    record { quota = r .quota; block = r .block; left = r .left; svbk = r .svbk; bank = omega arith; idle = r .idle }
+    seven.reached-with-bank s (w .value % 2) r (omega arith)
 register-keeps s w HDMA1 r = r
 register-keeps s w HDMA2 r = r
 register-keeps s w HDMA3 r = r
 register-keeps s w HDMA4 r = r
 register-keeps s w HDMA5 r = length-written s (w .value) (w .«lcd_on») r
 register-keeps s w SVBK r =
-    record { quota = r .quota; block = r .block; left = r .left; svbk = omega arith; bank = r .bank; idle = r .idle }
+    seven.reached-with-svbk s (w .value % 8) r (omega arith)
 register-keeps s w FF72 r = r
 register-keeps s w FF73 r = r
 register-keeps s w FF74 r = r

@@ -1,9 +1,8 @@
 // The next pair of addresses and the escape drain (vram_dma.rs, `moving`, `refill_quota`, `next_byte`, `drain_escape`).
 ghost use mathlib.Core.Path.{_≡_};
 ghost use Rattle.transfer.specs.Pair.{movingOf, quotaOf, nextByteOf, drainOf};
-use console::same;
+use arithmetic::pick::pick8;
 use console::vram_dma::VramDma;
-use countdown::pick::pick8;
 use transfer::pair::BytePair;
 use transfer::pair::NextAnswer;
 use transfer::pair::NextByte;
@@ -42,7 +41,7 @@ pub fn next_byte(d: VramDma) -> NextByte
             dma: dma,
         };
     }
-    let same = same::dma(d);
+    let same = rebuild::dma(d);
     NextByte {
         answer: NextAnswer::None,
         dma: same,
@@ -71,7 +70,7 @@ pub fn drain_escape(d: VramDma) -> NextByte
             dma: dma,
         };
     }
-    let same = same::dma(d);
+    let same = rebuild::dma(d);
     NextByte {
         answer: NextAnswer::None,
         dma: same,

@@ -14,31 +14,29 @@ use Rattle.console.specs.declared.Cgb.{Cgb}
 use Rattle.console.specs.declared.vram_dma.TransferMode.the-variants as mode
 use Rattle.console.specs.Set.{withFf72, withFf73, withFf74, withFf75, withSvbk}
 use Rattle.console.specs.Refusals.{Reason, _⇒_}
-use Rattle.console.proofs.Reached.{reached, passes}
+use Rattle.console.proofs.Reached.{reached, passes, reached-with-svbk}
 use Rattle.console.proofs.Refusals.{none-holds}
-use Rattle.hdma.specs.Hdma5.{hdma5Written, armedOf, cancelledOf, startedOf, statusByte, visible}
+use Rattle.hdma.specs.Hdma5.{hdma5Written, armedOf, cancelledOf, generalStarted, statusByte, visible}
 use Rattle.transfer.specs.Questions.{writeAddress, seizesBus}
-use Rattle.registers.specs.Map.{placeOf, isMapped, bankedRam, locksAt}
-use Rattle.registers.specs.Map as port
-use Rattle.registers.specs.Write.{stateAt, withSource, withDest, mapWriteOf, storedOf}
-use Rattle.registers.specs.declared.WriteInput.{WriteInput}
+use Rattle.registers.specs.Map.{placeOf, readable, writable, bankedRam, locksAt}
+use Rattle.memory.specs.Wram as port
+use Rattle.map_write.specs.Write.{stateAt, withSource, withDest, mapWriteOf, storedOf}
+use Rattle.map_write.specs.declared.WriteInput.{WriteInput}
 use Rattle.hdma.proofs.Written.{keeps, arms, disarms, starts}
 use Rattle.registers.proofs.Places.{at-d}
-use Rattle.bus_calls.specs.Access.{readOf, writeOf, accessRefusal}
-use Rattle.engine.specs.Fall.{fallCallOf, fallRefusal, fallenState}
-use Rattle.engine.specs.Speed.{defers, switchRefusal, switchCallOf}
-use Rattle.fall_edge.specs.View.{viewOf}
-use Rattle.fall_edge.specs.Stages.{observedArb, observedOf, judgedBlock, ungrantedArb, probationOf, droppedBlock, haltLatchArb}
-use Rattle.fall_edge.specs.Stages.{haltLatchOf, agedArb, pendedArb, grants, grantedArb, gatedOf, refilledOf, blindsArb, blindsOf}
-use Rattle.fall_edge.specs.Stages.{commitBlock, commitArb, commitOf, tenureArb, tenureOf, pendArb, pendOf, readyBlock, readinessOf}
-use Rattle.fall_edge.specs.Stages.{seizedBlock, seizureOf}
-use Rattle.fall_edge.specs.Fall as stages
-use Rattle.fall_edge.specs.Fall.{fallOf, ranOf, decidedOf, servedOf}
+use Rattle.engine.specs.Calls.{accessRefusal, readOf, writeOf, fallRefusal, fallenState, fallCallOf, defers, switchRefusal, switchCallOf}
+use Rattle.fall_stages.specs.Fall.{viewOf}
+use Rattle.fall_stages.specs.Fall.{observedArb, observedOf, judgedBlock, ungrantedArb, probationOf, droppedBlock, haltLatchArb}
+use Rattle.fall_stages.specs.Fall.{haltLatchOf, agedArb, pendedArb, grants, grantedArb, gatedOf, refilledOf, blindsArb, blindsOf}
+use Rattle.fall_stages.specs.Fall.{commitBlock, commitArb, commitOf, tenureArb, tenureOf, pendArb, pendOf, readiedBlock, readinessOf}
+use Rattle.fall_stages.specs.Fall.{seizedBlock, seizureOf}
+use Rattle.fall_stages.specs.Fall as stages
+use Rattle.fall_stages.specs.Fall.{fallOf, ranOf, decidedOf, servedOf}
 use Rattle.transfer.specs.Pair.{movingOf}
 use Rattle.speed_switch.specs.Switch.{switchedOf, blackoutOf}
 use Rattle.speed_switch.specs.declared.switch.SwitchInput.{SwitchInput}
 use Rattle.answers.specs.declared.ByteAnswer.the-variants.{Byte}
-use Rattle.bus_calls.proofs.Accepted.{read-accepted, write-unlocked}
+use Rattle.register_calls.proofs.Accepted.{read-accepted, write-unlocked}
 use Rattle.pan_docs.specs.PanDocs as pan
 use Rattle.pan_docs.specs.Agreement.{CgbMode, Whole, stateAfterWrite, Reads, Agreement, Difference}
 use Rattle.pan_docs.proofs.Bits as bits
@@ -48,7 +46,7 @@ input v lcd = record { value = v; «lcd_on» = lcd }
 
 module _ (s : Cgb) (m : CgbMode s) where
   -- in CGB mode an accepted write leaves what the map says
-  written : (a v : ℕ) (lcd : Bool) → isMapped (placeOf a) ≡ true → stateAfterWrite a v lcd s ≡ stateAt s (input v lcd) (placeOf a)
+  written : (a v : ℕ) (lcd : Bool) → writable (placeOf a) ≡ true → stateAfterWrite a v lcd s ≡ stateAt s (input v lcd) (placeOf a)
   written a v lcd mapped = write-unlocked s (m .reached) a mapped (input v lcd) (m .unlocked)
 
   key1-reads : Reads s 0xFF4D (pan.key1 (s .«double_speed») (s .«key1_armed»))
@@ -69,7 +67,7 @@ module _ (s : Cgb) (m : CgbMode s) where
   vbk-reads : Reads s 0xFF4F (pan.vbk (s .vram .selected))
   unfolding placeOf
   vbk-reads wram whole =
-      read-accepted s (m .reached) 0xFF4F refl wram whole ∙ rw (bits.vbk (s .vram .selected) (reached s (m .reached) .bank))
+      read-accepted s (m .reached) 0xFF4F refl wram whole ∙ rw (bits.vbk (s .vram .selected) (reached s (m .reached) .banks .bank))
 
   -- a pointer's write keeps what CGB mode asks
   source-mode : (x : ℕ) → CgbMode (withSource x s)
@@ -159,7 +157,7 @@ module _ (s : Cgb) (m : CgbMode s) (v : ℕ) (lcd : Bool) where
   banked-reached =
       let r : Reached s = reached s (m .reached) in
       passes (withSvbk (v % 8) s)
-      (record { quota = r .quota; block = r .block; left = r .left; svbk = omega arith; bank = r .bank; idle = r .idle })
+      (reached-with-svbk s (v % 8) r (omega arith))
 
   banked-reads :
       (i : ℕ) (wram : List ℕ) → Whole wram → i < 4096 →
@@ -169,7 +167,7 @@ module _ (s : Cgb) (m : CgbMode s) (v : ℕ) (lcd : Bool) where
       rw (written s m 0xFF70 v lcd refl)
       (let place : placeOf (0xD000 + i) ≡ bankedRam i =
       at-d (0xD000 + i) (omega arith) (omega arith) ∙ ap bankedRam (let e : 0xD000 + i - 0xD000 ≡ i = omega arith in e) in
-      read-accepted (withSvbk (v % 8) s) banked-reached (0xD000 + i) (ap isMapped place) wram whole ∙ rw place)
+      read-accepted (withSvbk (v % 8) s) banked-reached (0xD000 + i) (ap readable place) wram whole ∙ rw place)
 
   ff72-reads : Reads (stateAfterWrite 0xFF72 v lcd s) 0xFF72 v
   unfolding placeOf unreached
@@ -250,7 +248,7 @@ unfolding powerOnOf dmaAtRest unreached readOf writeOf accessRefusal placeOf map
 opens-access = tt
 
 opens-hdma5 : Unit {0}
-unfolding hdma5Written armedOf cancelledOf startedOf statusByte movingOf seizesBus
+unfolding hdma5Written armedOf cancelledOf generalStarted statusByte movingOf seizesBus
 opens-hdma5 = tt
 
 opens-fall-decides : Unit {0}
@@ -262,7 +260,7 @@ unfolding observedArb observedOf judgedBlock ungrantedArb probationOf droppedBlo
 opens-fall-grants = tt
 
 opens-fall-commits : Unit {0}
-unfolding gatedOf refilledOf blindsArb blindsOf commitBlock commitArb commitOf tenureArb tenureOf pendArb pendOf readyBlock readinessOf seizedBlock seizureOf
+unfolding gatedOf refilledOf blindsArb blindsOf commitBlock commitArb commitOf tenureArb tenureOf pendArb pendOf readiedBlock readinessOf seizedBlock seizureOf
 opens-fall-commits = tt
 
 opens-switch : Unit {0}

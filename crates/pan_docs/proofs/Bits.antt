@@ -6,7 +6,7 @@ use mathlib.Core.Bool.{Bool, true, false}
 use lib.Dec.{eqb, leb}
 use borrow.Author.Tests.{eqb-true, eqb-false, le-leb, lt-leb}
 use Rattle.hdma.specs.Pointers.{withHigh, withLow}
-use Rattle.registers.specs.Read.{key1Byte}
+use Rattle.map_read.specs.Read.{key1Byte}
 use Rattle.pan_docs.specs.PanDocs as pan
 
 pub key1 : (double armed : Bool) → key1Byte double armed ≡ pan.key1 double armed

@@ -14,14 +14,12 @@ use Rattle.console.specs.declared.vram_dma.TransferMode.the-variants as mode
 use Rattle.memory.specs.Lengths.{wramLength}
 use Rattle.transfer.specs.Questions.{writeAddress}
 use Rattle.estimate.specs.Estimate.{estimateOf}
-use Rattle.bus_calls.specs.Access.{readOf, writeOf}
-use Rattle.engine.specs.Fall.{fallCallOf}
-use Rattle.engine.specs.Speed.{switchRefusal, switchCallOf}
+use Rattle.engine.specs.Calls.{readOf, writeOf, fallCallOf, switchRefusal, switchCallOf}
 use Rattle.answers.specs.declared.ByteAnswer.the-variants.{Byte}
 use Rattle.answers.specs.declared.SwitchAnswer.the-variants.{Refused}
-use Rattle.fall_edge.specs.declared.FallInput.{FallInput}
+use Rattle.fall_stages.specs.declared.FallInput.{FallInput}
 use Rattle.speed_switch.specs.declared.switch.SwitchInput.{SwitchInput}
-use Rattle.registers.specs.Map as port
+use Rattle.memory.specs.Wram as port
 use Rattle.pan_docs.specs.PanDocs as pan
 
 pub record CgbMode (s : Cgb) : Type 0 where

@@ -6,9 +6,9 @@ use lib.ListN.{length}
 use Rattle.console.specs.declared.Cgb.{Cgb}
 use Rattle.bus.specs.Commit.{bytesOf}
 use Rattle.bus.specs.declared.commit.BusInput.{BusInput}
-use Rattle.registers.specs.declared.WriteInput.{WriteInput}
-use Rattle.bus_calls.specs.Access.{accessRefusal, readSaid, writeOf, writeSaid, writeWram}
-use Rattle.bus_calls.specs.BusCall.{lengthsOf, busRefusal, busPairs, busBytes, busState, busSaid, busVram, busOam, busOf}
+use Rattle.map_write.specs.declared.WriteInput.{WriteInput}
+use Rattle.engine.specs.Calls.{readRefusal, writeRefusal, readSaid, writeOf, writeWram, writeSaid, lengthsOf, busRefusal, busPairs, busState}
+use Rattle.engine.specs.Calls.{busSaid, busBytes, busVram, busOam, busOf}
 use Rattle.call.specs.declared.Call.{Call}
 use Rattle.call.specs.declared.Call.the-variants.{Write, Read, Bus, Plain}
 use Rattle.plain.proofs.Declined.{plain-declined}
@@ -19,14 +19,14 @@ use Rattle.perform.specs.Perform.{readPerformed, writePerformed, busPerf
 module _ (s : Cgb) (wram vram oam : List ℕ) where
   read-declined : (a : ℕ) → (readPerformed s wram a .told .refusal ≡ 0 → ⊥) → Declined s wram vram oam (readPerformed s wram a) wram vram oam
   unfolding readPerformed readSaid
-  read-declined a = told.quiet s wram vram oam (accessRefusal s (length wram) a) _ _ s refl (λ e. refl)
+  read-declined a = told.quiet s wram vram oam (readRefusal s (length wram) a) _ _ s refl (λ e. refl)
 
   write-declined :
       (a : ℕ) (w : WriteInput) → (writePerformed s w a (length wram) .told .refusal ≡ 0 → ⊥) →
       Declined s wram vram oam (writePerformed s w a (length wram)) (writeWram s w a wram) vram oam
   unfolding writePerformed writeSaid writeOf writeWram
   write-declined a w =
-      told.law s wram vram oam (accessRefusal s (length wram) a) [] (writePerformed s w a (length wram)) (writeWram s w a wram) vram oam refl
+      told.law s wram vram oam (writeRefusal s (length wram) a) [] (writePerformed s w a (length wram)) (writeWram s w a wram) vram oam refl
       (λ e. record {
         number-alone = rw e;
         no-pair = refl;

@@ -4,7 +4,7 @@ use mathlib.Core.Path.{_≡_, refl, sym, subst}
 use mathlib.Core.List.{List}
 use Rattle.console.specs.declared.Cgb.{Cgb}
 use Rattle.bus.specs.declared.commit.BusInput.{BusInput}
-use Rattle.registers.specs.declared.WriteInput.{WriteInput}
+use Rattle.map_write.specs.declared.WriteInput.{WriteInput}
 use Rattle.perform.proofs.Declined.{declined-call}
 use Rattle.perform.specs.Perform.{readPerformed, WritePerformed, BusPerformed, performOf, wramLeft, vramLeft, oamLeft, Performs}
 use Rattle.plain.specs.Plain.{plainPerformed}

@@ -6,9 +6,8 @@ use mathlib.Core.List.{List}
 use lib.ListN.{length}
 use Rattle.console.specs.declared.Cgb.{Cgb}
 use Rattle.bus.specs.declared.commit.BusInput.{BusInput}
-use Rattle.registers.specs.declared.WriteInput.{WriteInput}
-use Rattle.bus_calls.specs.Access.{readSaid, writeOf, writeSaid, writeWram}
-use Rattle.bus_calls.specs.BusCall.{lengthsOf, busOf, busSaid, busVram, busOam}
+use Rattle.map_write.specs.declared.WriteInput.{WriteInput}
+use Rattle.engine.specs.Calls.{readSaid, writeOf, writeWram, writeSaid, lengthsOf, busSaid, busVram, busOam, busOf}
 use Rattle.call.specs.declared.Call.{Call}
 use Rattle.call.specs.declared.Call.the-variants.{Write, Read, Bus, Plain}
 use Rattle.plain.specs.Plain.{plainPerformed}

@@ -3,13 +3,13 @@ ghost use mathlib.Core.Path.{_≡_};
 ghost use Rattle.perform.specs.Perform.{WritePerformed, BusPerformed, readPerformed};
 use bus::commit::BusInput;
 use console::Cgb;
-use registers::WriteInput;
+use map_write::WriteInput;
 use told::Performed;
 
 pub fn write(state: Cgb, wram: &mut [u8], address: u16, input: WriteInput) -> Performed
     ensures { λ r. ⌜ WritePerformed state input address (now (wram .entry)) r (now (wram .exit)) ⌝ }
 {
-    let done = bus_calls::access::write(state, wram, address, input);
+    let done = engine::write(state, wram, address, input);
     let answer = done.answer;
     let after = done.state;
     told::quiet(told::of_done(answer), after)
@@ -18,7 +18,7 @@ pub fn write(state: Cgb, wram: &mut [u8], address: u16, input: WriteInput) -> Pe
 pub fn read(state: Cgb, wram: &[u8], address: u16) -> Performed
     ensures { λ r. ⌜ r ≡ readPerformed state (now (wram .entry)) address ⌝ }
 {
-    let answer = bus_calls::access::read(state, wram, address);
+    let answer = engine::read(state, wram, address);
     told::quiet(told::of_byte(answer), state)
 }
 
@@ -33,14 +33,7 @@ pub fn bus(
     ensures { λ r. ⌜ BusPerformed state input (now (cartridge .entry)) (now (wram .entry)) (now (vram .entry)) (now (oam .entry))
         r (now (vram .exit)) (now (oam .exit)) ⌝ }
 {
-    let bussed = bus_calls::bus_call::vram_dma_commit_bytes(
-        state,
-        input,
-        cartridge,
-        wram,
-        vram,
-        oam,
-    );
+    let bussed = engine::vram_dma_commit_bytes(state, input, cartridge, wram, vram, oam);
     let answer = bussed.answer;
     let pairs = bussed.pairs;
     let bytes = bussed.bytes;

@@ -15,13 +15,9 @@ use Rattle.answers.specs.declared.DoneAnswer.the-variants as done
 use Rattle.answers.specs.declared.FlagAnswer.the-variants as flag
 use Rattle.answers.specs.declared.PairAnswer.the-variants as pair
 use Rattle.answers.specs.declared.SwitchAnswer.the-variants as switch
-use Rattle.bus_calls.proofs.Says.{arbitration-said, conflict-said}
-use Rattle.bus_calls.specs.Bus.{arbitrated, arbitrationCallOf, conflictCallOf}
-use Rattle.engine.proofs.Says.{pair-said, switch-said}
-use Rattle.engine.specs.Fall.{fallRefusal, fallCallOf}
-use Rattle.engine.specs.Lcd.{lcdCallOf, retiredCallOf}
-use Rattle.engine.specs.Pair.{nextPairOf, escapeDrainOf}
-use Rattle.engine.specs.Speed.{switchRefusal, switchCallOf, blackoutCallOf, wakeCallOf}
+use Rattle.engine.proofs.Says.{arbitration-said, conflict-said, pair-said, switch-said}
+use Rattle.engine.specs.Calls.{fallRefusal, fallCallOf, nextPairOf, arbitrated, arbitrationCallOf, switchRefusal, switchCallOf, blackoutCallOf}
+use Rattle.engine.specs.Calls.{wakeCallOf, escapeDrainOf, lcdCallOf, retiredCallOf, conflictCallOf}
 use Rattle.ask.specs.Ask.{askedOf}
 use Rattle.ask.proofs.Asked.{asked-said}
 use Rattle.call.specs.declared.PlainCall.{PlainCall}

@@ -1,11 +1,8 @@
 -- The calls that are lent no memory: what each says and the state after, by the definition that its contract cites.
 use Rattle.console.specs.declared.Cgb.{Cgb}
 use Rattle.answers.specs.Answers.{doneStateSays, flaggedSays, handedSays, fellSays, switchedSays, arbitratedSays, conflictSays}
-use Rattle.bus_calls.specs.Bus.{arbitrationCallOf, conflictCallOf}
-use Rattle.engine.specs.Fall.{fallCallOf}
-use Rattle.engine.specs.Lcd.{lcdCallOf, retiredCallOf}
-use Rattle.engine.specs.Pair.{nextPairOf, escapeDrainOf}
-use Rattle.engine.specs.Speed.{switchCallOf, blackoutCallOf, wakeCallOf}
+use Rattle.engine.specs.Calls.{fallCallOf, nextPairOf, arbitrationCallOf, switchCallOf, blackoutCallOf, wakeCallOf, escapeDrainOf, lcdCallOf}
+use Rattle.engine.specs.Calls.{retiredCallOf, conflictCallOf}
 use Rattle.ask.specs.Ask.{askedOf}
 use Rattle.call.specs.declared.PlainCall.{PlainCall}
 use Rattle.call.specs.declared.PlainCall.the-variants as plain

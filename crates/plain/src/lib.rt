@@ -12,7 +12,7 @@ use told::Performed;
 fn fell(state: Cgb, input: FallInput) -> Performed
     ensures { λ r. ⌜ r ≡ plainPerformed state (PlainCall.Fall input) ⌝ }
 {
-    let done = engine::fall::vram_dma_fall_edge(state, input);
+    let done = engine::vram_dma_fall_edge(state, input);
     let answer = done.answer;
     let after = done.state;
     told::quiet(told::of_claim(answer), after)
@@ -21,7 +21,7 @@ fn fell(state: Cgb, input: FallInput) -> Performed
 fn next_pair(state: Cgb) -> Performed
     ensures { λ r. ⌜ r ≡ plainPerformed state PlainCall.NextPair ⌝ }
 {
-    let done = engine::pair::next_byte(state);
+    let done = engine::next_byte(state);
     let answer = done.answer;
     let after = done.state;
     told::quiet(told::of_pair(answer), after)
@@ -30,7 +30,7 @@ fn next_pair(state: Cgb) -> Performed
 fn escape_drain(state: Cgb) -> Performed
     ensures { λ r. ⌜ r ≡ plainPerformed state PlainCall.EscapeDrain ⌝ }
 {
-    let done = engine::pair::vram_dma_drain_escape(state);
+    let done = engine::vram_dma_drain_escape(state);
     let answer = done.answer;
     let after = done.state;
     told::quiet(told::of_pair(answer), after)
@@ -39,7 +39,7 @@ fn escape_drain(state: Cgb) -> Performed
 fn switched(state: Cgb, input: SwitchInput) -> Performed
     ensures { λ r. ⌜ r ≡ plainPerformed state (PlainCall.Switch input) ⌝ }
 {
-    let done = engine::speed::attempt_speed_switch(state, input);
+    let done = engine::attempt_speed_switch(state, input);
     let answer = done.answer;
     let after = done.state;
     told::quiet(told::of_switch(answer), after)
@@ -48,7 +48,7 @@ fn switched(state: Cgb, input: SwitchInput) -> Performed
 fn lcd_off(state: Cgb) -> Performed
     ensures { λ r. ⌜ r ≡ plainPerformed state PlainCall.LcdOff ⌝ }
 {
-    let done = engine::lcd::vram_dma_lcd_disabled(state);
+    let done = engine::vram_dma_lcd_disabled(state);
     let answer = done.answer;
     let after = done.state;
     told::quiet(told::of_done(answer), after)
@@ -57,7 +57,7 @@ fn lcd_off(state: Cgb) -> Performed
 fn retired(state: Cgb) -> Performed
     ensures { λ r. ⌜ r ≡ plainPerformed state PlainCall.InstructionRetired ⌝ }
 {
-    let done = engine::lcd::vram_dma_instruction_retired(state);
+    let done = engine::vram_dma_instruction_retired(state);
     let answer = done.answer;
     let after = done.state;
     told::quiet(told::of_done(answer), after)
@@ -66,7 +66,7 @@ fn retired(state: Cgb) -> Performed
 fn blackout(state: Cgb, elapsed: u32) -> Performed
     ensures { λ r. ⌜ r ≡ plainPerformed state (PlainCall.Blackout elapsed) ⌝ }
 {
-    let done = engine::speed::drain_speed_switch_blackout(state, elapsed);
+    let done = engine::drain_speed_switch_blackout(state, elapsed);
     let answer = done.answer;
     let after = done.state;
     told::quiet(told::of_flag(answer), after)
@@ -75,7 +75,7 @@ fn blackout(state: Cgb, elapsed: u32) -> Performed
 fn wake(state: Cgb, boundary: bool) -> Performed
     ensures { λ r. ⌜ r ≡ plainPerformed state (PlainCall.Wake boundary) ⌝ }
 {
-    let done = engine::speed::speed_switch_wake_ready(state, boundary);
+    let done = engine::speed_switch_wake_ready(state, boundary);
     let answer = done.answer;
     let after = done.state;
     told::quiet(told::of_flag(answer), after)
@@ -84,7 +84,7 @@ fn wake(state: Cgb, boundary: bool) -> Performed
 fn arbitrated(state: Cgb, input: ArbitrationInput) -> Performed
     ensures { λ r. ⌜ r ≡ plainPerformed state (PlainCall.Arbitrate input) ⌝ }
 {
-    let done = bus_calls::shared_bus::vram_dma_arbitrate_oam(state, input);
+    let done = engine::vram_dma_arbitrate_oam(state, input);
     let answer = done.answer;
     let after = done.state;
     told::quiet(told::of_arbitration(answer), after)
@@ -93,7 +93,7 @@ fn arbitrated(state: Cgb, input: ArbitrationInput) -> Performed
 fn conflict(state: Cgb, address: u16) -> Performed
     ensures { λ r. ⌜ r ≡ plainPerformed state (PlainCall.Conflict address) ⌝ }
 {
-    let answer = bus_calls::shared_bus::vram_dma_conflict_source(state, address);
+    let answer = engine::vram_dma_conflict_source(state, address);
     told::quiet(told::of_conflict(answer), state)
 }
 

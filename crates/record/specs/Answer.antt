@@ -3,7 +3,7 @@
 use Prim.Native.Nat.{ℕ, _/_, _%_}
 use mathlib.Core.List.{List, [], _∷_, _++_}
 use lib.ListN.{getD, replicate}
-use Rattle.codec.specs.Number.{digits}
+use Rattle.arithmetic.specs.Number.{digits}
 use Rattle.bus.specs.Deposit.{noPair}
 use Rattle.transfer.specs.declared.pair.BytePair.{BytePair}
 use Rattle.told.specs.declared.Performed.{Performed}

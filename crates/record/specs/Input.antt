@@ -7,11 +7,11 @@ use Prim.Native.Nat.{ℕ, _/_, _%_}
 use mathlib.Core.Bool.{Bool, not}
 use mathlib.Core.List.{List}
 use lib.Dec.{eqb}
-use Rattle.codec.specs.Number.{byteAt, numberAt}
+use Rattle.arithmetic.specs.Number.{byteAt, numberAt}
 use Rattle.bus.specs.declared.arbitration.ArbitrationInput.{ArbitrationInput}
 use Rattle.bus.specs.declared.commit.BusInput.{BusInput}
-use Rattle.fall_edge.specs.declared.FallInput.{FallInput}
-use Rattle.registers.specs.declared.WriteInput.{WriteInput}
+use Rattle.fall_stages.specs.declared.FallInput.{FallInput}
+use Rattle.map_write.specs.declared.WriteInput.{WriteInput}
 use Rattle.speed_switch.specs.declared.switch.SwitchInput.{SwitchInput}
 
 abbrev pub bit0 : ℕ → Bool

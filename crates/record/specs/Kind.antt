@@ -1,7 +1,7 @@
 -- The kinds of the calls that are lent no memory: byte 0 of a record. Written by tools/calls from calls.txt.
 use Prim.Native.Nat.{ℕ}
 use mathlib.Core.List.{List, [], _∷_}
-use Rattle.codec.specs.Number.{byteAt}
+use Rattle.arithmetic.specs.Number.{byteAt}
 use Rattle.table.specs.Table.{Entry, _⟼_, look}
 use Rattle.call.specs.declared.PlainCall.the-variants as plain
 use Rattle.call.specs.declared.query.Query.the-variants as query

@@ -2,7 +2,7 @@
 -- no call.
 use Prim.Native.Nat.{ℕ}
 use mathlib.Core.List.{List, [], _∷_}
-use Rattle.codec.specs.Number.{byteAt}
+use Rattle.arithmetic.specs.Number.{byteAt}
 use Rattle.table.specs.Table.{Entry, _⟼_, look}
 use Rattle.call.specs.declared.Call.the-variants as call
 use Rattle.record.specs.Input.{addressOf, writeInputOf, busInputOf}

@@ -1,13 +1,13 @@
 // The inputs of a call in its record of 16 bytes, numbers lowest byte first. Other bytes and bits are ignored.
 ghost use mathlib.Core.Path.{_≡_};
 ghost use Rattle.record.specs.Input.{edgeOf, addressOf, elapsedOf, boundaryOf, writeInputOf, fallInputOf, switchInputOf, busInputOf, arbitrationInputOf};
+use arithmetic::number::of_eight;
+use arithmetic::number::of_four;
+use arithmetic::number::of_two;
 use bus::arbitration::ArbitrationInput;
 use bus::commit::BusInput;
-use codec::number::of_eight;
-use codec::number::of_four;
-use codec::number::of_two;
 use fall_edge::FallInput;
-use registers::WriteInput;
+use map_write::WriteInput;
 use speed_switch::switch::SwitchInput;
 
 pub fn edge(bytes: [u8; 16]) -> u64

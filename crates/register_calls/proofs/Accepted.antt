@@ -9,10 +9,10 @@ use lib.ListN.{length}
 use Rattle.console.specs.Reached.{unreached}
 use Rattle.console.specs.declared.Cgb.{Cgb}
 use Rattle.memory.specs.Lengths.{wramLength}
-use Rattle.registers.specs.Map.{Place, placeOf, isMapped, locksAt}
-use Rattle.registers.specs.Read.{byteAt}
-use Rattle.registers.specs.Write.{stateAt, storedOf, mapWriteOf}
-use Rattle.registers.specs.declared.WriteInput.{WriteInput}
+use Rattle.registers.specs.Map.{Place, placeOf, readable, writable, locksAt}
+use Rattle.map_read.specs.Read.{mapByte}
+use Rattle.map_write.specs.Write.{stateAt, storedOf, mapWriteOf}
+use Rattle.map_write.specs.declared.WriteInput.{WriteInput}
 use Rattle.register_calls.specs.Access.{accessRefusal, writeRefusal, readOf, writeOf}
 use Rattle.answers.specs.declared.ByteAnswer.the-variants as byte
 use Rattle.answers.specs.declared.DoneAnswer.the-variants as done
@@ -29,11 +29,11 @@ module _ (s : Cgb) (reached : unreached s ≡ false) (a : ℕ) where
   accepted map mapped = at-none map s wramLength a reached refl mapped
 
   pub read-accepted :
-      isMapped (placeOf a) ≡ true → (wram : List ℕ) → length wram ≡ wramLength → readOf s wram a ≡ byte.Byte (byteAt s wram (placeOf a))
+      readable (placeOf a) ≡ true → (wram : List ℕ) → length wram ≡ wramLength → readOf s wram a ≡ byte.Byte (mapByte s wram (placeOf a))
   unfolding readOf
   read-accepted mapped wram whole = rw (whole, accepted _ mapped)
 
-  module _ (mapped : isMapped (placeOf a) ≡ true) where
+  module _ (mapped : writable (placeOf a) ≡ true) where
     pub write-accepted : (w : WriteInput) → writeOf s w a wramLength ≡ record { answer = done.Done; state = mapWriteOf s w a .state }
     unfolding writeOf
     write-accepted w = rw (accepted _ mapped)

@@ -13,10 +13,10 @@ use Rattle.memory.specs.Lengths.{wramLength, wrongLength}
 use Rattle.transfer.proofs.Conditions.{when-false}
 use Rattle.registers.specs.Map.{Place, placeOf}
 use Rattle.registers.specs.MapSteps.{Mapped}
-use Rattle.registers.specs.Read.{byteAt, mapReadOf}
-use Rattle.registers.specs.declared.MapRead.the-variants as map
-use Rattle.registers.specs.declared.WriteInput.{WriteInput}
-use Rattle.registers.proofs.MapSteps.{mapped}
+use Rattle.map_read.specs.Read.{mapByte, mapReadOf}
+use Rattle.map_read.specs.declared.MapRead.the-variants as map
+use Rattle.map_write.specs.declared.WriteInput.{WriteInput}
+use Rattle.registers.proofs.MapSteps.{read-map, write-map}
 use Rattle.register_calls.specs.Access.{accessRefusal, readRefusal, readOf, writeOf, writeWram}
 use Rattle.register_calls.specs.AccessSteps.{AccessRefusals, AccessSteps}
 use Rattle.answers.specs.declared.ByteAnswer.the-variants as byte
@@ -48,16 +48,16 @@ module _ (s : Cgb) (w : WriteInput) (a : ℕ) (wram : List ℕ) where
   unfolding readOf mapReadOf
   read free b =
       rw (free, is-mapped _ s (length wram) a free) (
-        λ e. let x : byteAt s wram (placeOf a) ≡ b = cc in ap map.Byte x,
-        λ e. let x : byteAt s wram (placeOf a) ≡ b = cc in ap byte.Byte x,
+        λ e. let x : mapByte s wram (placeOf a) ≡ b = cc in ap map.Byte x,
+        λ e. let x : mapByte s wram (placeOf a) ≡ b = cc in ap byte.Byte x,
       )
 
   pub access-steps : AccessSteps s w a wram
   unfolding readOf writeOf writeWram
   access-steps =
       record {
-        read-refusals = refusals _ s (length wram) a (mapped a);
-        write-refusals = refusals _ s (length wram) a (mapped a);
+        read-refusals = refusals _ s (length wram) a (read-map a);
+        write-refusals = refusals _ s (length wram) a (write-map a);
         read = read;
         write = λ free. (rw free, rw free);
         read-declined = λ number e other. rw (e, ne-eqb number 0 other);

@@ -10,9 +10,9 @@ use Rattle.console.specs.Reached.{unreached}
 use Rattle.console.specs.declared.Cgb.{Cgb}
 use Rattle.memory.specs.Lengths.{wramLength}
 use Rattle.registers.specs.Map.{Place, placeOf}
-use Rattle.registers.specs.Read.{byteAt}
-use Rattle.registers.specs.Write.{mapWriteOf, wramAfter}
-use Rattle.registers.specs.declared.WriteInput.{WriteInput}
+use Rattle.map_read.specs.Read.{mapByte}
+use Rattle.map_write.specs.Write.{mapWriteOf, wramAfter}
+use Rattle.map_write.specs.declared.WriteInput.{WriteInput}
 use Rattle.answers.specs.Answers.{Answers, byteSays, doneSays, doneStateSays}
 use Rattle.answers.specs.declared.ByteAnswer.{ByteAnswer}
 use Rattle.answers.specs.declared.ByteAnswer.the-variants as byte
@@ -28,7 +28,7 @@ module _ (s : Cgb) where
 
   pub read-told : (wram : List ℕ) (a : ℕ) → byteSays (readOf s wram a) ≡ readSaid s wram a
   unfolding readOf readSaid
-  read-told wram a = told byteSays byte.Refused (byte.Byte (byteAt s wram (placeOf a))) _ (λ k. refl) refl (readRefusal s (length wram) a)
+  read-told wram a = told byteSays byte.Refused (byte.Byte (mapByte s wram (placeOf a))) _ (λ k. refl) refl (readRefusal s (length wram) a)
 
 -- the number by the first test that holds
 module _ (map : Place → Bool) (s : Cgb) (n a : ℕ) where
@@ -57,7 +57,7 @@ module _ (s : Cgb) (wram : List ℕ) (a : ℕ) (r : ByteAnswer) where
   declined-read k number some is = answers (read-told s wram a) (is ∙ rw (number, some))
 
   pub given-read :
-      readRefusal s (length wram) a ≡ 0 → r ≡ byte.Byte (byteAt s wram (placeOf a)) →
+      readRefusal s (length wram) a ≡ 0 → r ≡ byte.Byte (mapByte s wram (placeOf a)) →
       Answers byteSays (readOf s wram a) (readSaid s wram a) r
   unfolding readOf
   given-read number is = answers (read-told s wram a) (is ∙ rw number)

@@ -11,10 +11,10 @@ use Rattle.console.specs.Reached.{unreached}
 use Rattle.console.specs.Refusals.{_⇒_, firstOf}
 use Rattle.console.specs.declared.Cgb.{Cgb}
 use Rattle.memory.specs.Lengths.{wramLength, wrongLength}
-use Rattle.registers.specs.Map.{Place, placeOf, isMapped}
-use Rattle.registers.specs.Read.{byteAt}
-use Rattle.registers.specs.Write.{mapWriteOf, wramAfter}
-use Rattle.registers.specs.declared.WriteInput.{WriteInput}
+use Rattle.registers.specs.Map.{Place, placeOf, readable, writable}
+use Rattle.map_read.specs.Read.{mapByte}
+use Rattle.map_write.specs.Write.{mapWriteOf, wramAfter}
+use Rattle.map_write.specs.declared.WriteInput.{WriteInput}
 use Rattle.answers.specs.Answers.{Said, saying, kept, doneSays, byteAnswer, doneAnswer}
 use Rattle.answers.specs.declared.ByteAnswer.{ByteAnswer}
 use Rattle.answers.specs.declared.Done.{Done}
@@ -26,16 +26,16 @@ accessRefusal map s n a =
 
 -- "4 address not in the call's map": of a read, and of a write
 abbrev pub readRefusal : Cgb → ℕ → ℕ → ℕ
-readRefusal = accessRefusal isMapped
+readRefusal = accessRefusal readable
 
 abbrev pub writeRefusal : Cgb → ℕ → ℕ → ℕ
-writeRefusal = accessRefusal isMapped
+writeRefusal = accessRefusal writable
 
 unfoldable pub readOf : Cgb → List ℕ → ℕ → ByteAnswer
-readOf s wram a = byteAnswer (readRefusal s (length wram) a) (byteAt s wram (placeOf a))
+readOf s wram a = byteAnswer (readRefusal s (length wram) a) (mapByte s wram (placeOf a))
 
 unfoldable pub readSaid : Cgb → List ℕ → ℕ → Said
-readSaid s wram a = saying (readRefusal s (length wram) a) (byteAt s wram (placeOf a) ∷ [])
+readSaid s wram a = saying (readRefusal s (length wram) a) (mapByte s wram (placeOf a) ∷ [])
 
 -- answer and next state
 unfoldable pub writeOf : Cgb → WriteInput → ℕ → ℕ → Done

@@ -9,10 +9,10 @@ use lib.ListN.{length}
 use Rattle.console.specs.Reached.{unreached}
 use Rattle.console.specs.declared.Cgb.{Cgb}
 use Rattle.registers.specs.MapSteps.{Mapped}
-use Rattle.registers.specs.Read.{mapReadOf}
-use Rattle.registers.specs.Write.{mapWriteOf, wramAfter}
-use Rattle.registers.specs.declared.MapRead.the-variants as map
-use Rattle.registers.specs.declared.WriteInput.{WriteInput}
+use Rattle.map_read.specs.Read.{mapReadOf}
+use Rattle.map_write.specs.Write.{mapWriteOf, wramAfter}
+use Rattle.map_read.specs.declared.MapRead.the-variants as map
+use Rattle.map_write.specs.declared.WriteInput.{WriteInput}
 use Rattle.register_calls.specs.Access.{readRefusal, writeRefusal, readOf, writeOf, writeWram}
 use Rattle.answers.specs.declared.ByteAnswer.the-variants as byte
 use Rattle.answers.specs.declared.DoneAnswer.the-variants as done

@@ -7,8 +7,8 @@ use answers::Done;
 use answers::DoneAnswer;
 use console::Cgb;
 use console::refusal;
-use registers::MapRead;
-use registers::WriteInput;
+use map_read::MapRead;
+use map_write::WriteInput;
 
 pub fn read(state: Cgb, wram: &[u8], address: u16) -> ByteAnswer
     ensures { λ r. ⌜ Answers byteSays (readOf state (now (wram .entry)) address) (readSaid state (now (wram .entry)) address) r ⌝ }
@@ -19,7 +19,7 @@ pub fn read(state: Cgb, wram: &[u8], address: u16) -> ByteAnswer
     if wram.len() != memory::WRAM {
         return ByteAnswer::Refused(refusal::LENGTH);
     }
-    let found = registers::map_read_byte(state, wram, address);
+    let found = map_read::map_read_byte(state, wram, address);
     let MapRead::Byte(byte) = found else {
         return ByteAnswer::Refused(refusal::ADDRESS);
     };
@@ -41,7 +41,7 @@ pub fn write(state: Cgb, wram: &mut [u8], address: u16, input: WriteInput) -> Do
             state: state,
         };
     }
-    let written = registers::map_write_byte(state, wram, address, input);
+    let written = map_write::map_write_byte(state, wram, address, input);
     if written.mapped {
         let next = written.state;
         return Done {

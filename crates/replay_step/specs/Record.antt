@@ -5,7 +5,7 @@ use mathlib.Core.Bool.{Bool, false, cond, _||_}
 use mathlib.Core.List.{List}
 use lib.Dec.{eqb, ltb}
 use lib.ListN.{length}
-use Rattle.codec.specs.Number.{byteAt}
+use Rattle.arithmetic.specs.Number.{byteAt}
 use Rattle.record.specs.Record.{callOf}
 use Rattle.record.specs.declared.Coded.the-variants.{Unknown}
 use Rattle.replay_step.specs.declared.read.Record.{Record}

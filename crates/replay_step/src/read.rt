@@ -1,6 +1,6 @@
 // A replay record: 16 bytes, of the kinds 1 to 7 alone.
 ghost use mathlib.Core.Path.{_≡_};
-ghost use Rattle.codec.specs.Number.{bytesAt};
+ghost use Rattle.arithmetic.specs.Number.{bytesAt};
 ghost use Rattle.replay_step.specs.Record.{noRecord, recordOf, recordAtStart};
 use memory::byte_at;
 use record::Coded;

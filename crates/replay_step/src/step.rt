@@ -3,7 +3,6 @@ ghost use mathlib.Core.Path.{_≡_};
 ghost use Rattle.replay_step.specs.Step.{lineOf, pairLineOf, toldPair, Steps};
 use crate::read::Record;
 use console::Cgb;
-use console::same;
 use told::Told;
 use transfer::pair::BytePair;
 use transfer::pair::NextAnswer;
@@ -28,7 +27,7 @@ fn quiet(refusal: u8, state: Cgb) -> Stepped
     ensures { λ r. ⌜ r ≡ lineOf refusal state ⌝ }
 {
     let ff55 = hdma::hdma5::status_byte(state.vram_dma);
-    let same = same::cgb(state);
+    let same = rebuild::cgb(state);
     Stepped {
         line: Line {
             refusal: refusal,
@@ -49,7 +48,7 @@ fn lined(refusal: u8, answer: NextAnswer, state: Cgb) -> Stepped
         return quiet(refusal, state);
     };
     let ff55 = hdma::hdma5::status_byte(state.vram_dma);
-    let same = same::cgb(state);
+    let same = rebuild::cgb(state);
     Stepped {
         line: Line {
             refusal: refusal,

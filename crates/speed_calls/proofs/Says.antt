@@ -6,11 +6,11 @@ use mathlib.Core.Bool.{Bool}
 use borrow.Author.Tests.{eq-eqb, ne-eqb}
 use Rattle.console.specs.Reached.{unreached}
 use Rattle.console.specs.declared.Cgb.{Cgb}
-use Rattle.speed_switch.specs.Blackout.{drainedOf, wokenOf}
+use Rattle.blackout.specs.Blackout.{drainedOf, wokenOf}
 use Rattle.speed_switch.specs.Switch.{switchedOf}
 use Rattle.speed_switch.specs.declared.switch.SwitchInput.{SwitchInput}
-use Rattle.speed_switch.specs.declared.switch.SwitchOutcome.{SwitchOutcome}
-use Rattle.speed_switch.specs.declared.switch.SwitchOutcome.the-variants as outcome
+use Rattle.cut.specs.declared.SwitchOutcome.{SwitchOutcome}
+use Rattle.cut.specs.declared.SwitchOutcome.the-variants as outcome
 use Rattle.answers.specs.Answers.{accepted, Answers, stateRefusal, flagSays, flaggedSays, switchSays, switchedSays}
 use Rattle.answers.specs.declared.FlagAnswer.the-variants as flag
 use Rattle.answers.specs.declared.SwitchAnswer.the-variants as switch

@@ -6,19 +6,19 @@ use lib.Dec.{ltb}
 use borrow.Author.Tests.{lt-ltb, le-ltb}
 use Rattle.console.specs.declared.Cgb.{Cgb}
 use Rattle.transfer.proofs.Conditions.{when-false}
-use Rattle.speed_switch.specs.SpeedSteps.{ReadyBlock}
-use Rattle.speed_switch.specs.Switch.{readyBlock}
+use Rattle.cut.specs.CutSteps.{ReadyBlock}
+use Rattle.cut.specs.Cut.{readyBlock}
 use Rattle.speed_switch.specs.declared.switch.SwitchInput.{SwitchInput}
-use Rattle.speed_switch.proofs.SpeedSteps.{speed-steps}
+use Rattle.cut.proofs.CutSteps.{cut-steps}
 use Rattle.speed_calls.specs.Speed.{defers, switchRefusal}
 use Rattle.speed_calls.specs.SwitchCallSteps.{Attempted, SwitchRefusals}
 
 module _ (s : Cgb) (i : SwitchInput) where
   ready : ReadyBlock (s .«vram_dma») → readyBlock (s .«vram_dma») ≡ true
-  ready k = speed-steps .ready-block (s .«vram_dma») .1 k
+  ready k = cut-steps .ready-block (s .«vram_dma») .1 k
 
   not-ready : (ReadyBlock (s .«vram_dma») → ⊥) → readyBlock (s .«vram_dma») ≡ false
-  not-ready k = when-false (readyBlock (s .«vram_dma»)) (speed-steps .ready-block (s .«vram_dma»)) .1 k
+  not-ready k = when-false (readyBlock (s .«vram_dma»)) (cut-steps .ready-block (s .«vram_dma»)) .1 k
 
   calm : s .«speed_switch_blackout» ≡ 0 → ltb 0 (s .«speed_switch_blackout») ≡ false
   calm none = le-ltb 0 (s .«speed_switch_blackout») (omega arith)

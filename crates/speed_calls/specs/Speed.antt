@@ -7,13 +7,13 @@ use lib.Dec.{ltb}
 use Rattle.console.specs.Reached.{unreached}
 use Rattle.console.specs.Refusals.{_⇒_, firstOf, answered}
 use Rattle.console.specs.declared.Cgb.{Cgb}
-use Rattle.speed_switch.specs.Blackout.{drainedOf, wokenOf}
-use Rattle.speed_switch.specs.Speed.{blackoutActive}
-use Rattle.speed_switch.specs.Switch.{readyBlock, switchedOf}
-use Rattle.speed_switch.specs.declared.blackout.Flagged as part
+use Rattle.blackout.specs.Blackout.{drainedOf, wokenOf, blackoutActive}
+use Rattle.cut.specs.Cut.{readyBlock}
+use Rattle.speed_switch.specs.Switch.{switchedOf}
+use Rattle.blackout.specs.declared.Flagged as part
 use Rattle.speed_switch.specs.declared.switch.SwitchInput.{SwitchInput}
-use Rattle.speed_switch.specs.declared.switch.SwitchOutcome.{SwitchOutcome}
-use Rattle.speed_switch.specs.declared.switch.SwitchOutcome.the-variants as outcome
+use Rattle.cut.specs.declared.SwitchOutcome.{SwitchOutcome}
+use Rattle.cut.specs.declared.SwitchOutcome.the-variants as outcome
 use Rattle.answers.specs.Answers.{Said, saying, bitOf, kept, stateRefusal, flagAnswer, switchSays}
 use Rattle.answers.specs.declared.Flagged.{Flagged}
 use Rattle.answers.specs.declared.SwitchAnswer.{SwitchAnswer}

@@ -6,7 +6,7 @@ use mathlib.Core.Path.{_≡_}
 use mathlib.Core.Bool.{true, false}
 use Rattle.console.specs.Reached.{unreached}
 use Rattle.console.specs.declared.Cgb.{Cgb}
-use Rattle.speed_switch.specs.SpeedSteps.{ReadyBlock}
+use Rattle.cut.specs.CutSteps.{ReadyBlock}
 use Rattle.speed_switch.specs.declared.switch.SwitchInput.{SwitchInput}
 use Rattle.speed_calls.specs.Speed.{switchRefusal}
 

@@ -10,8 +10,8 @@ use answers::SwitchAnswer;
 use answers::Switched;
 use console::Cgb;
 use console::refusal;
+use cut::SwitchOutcome;
 use speed_switch::switch::SwitchInput;
-use speed_switch::switch::SwitchOutcome;
 
 fn refused(state: Cgb, number: u8) -> Switched
     ensures { λ r. ⌜ r ≡ record { answer = SwitchAnswer.Refused number; state = state } ⌝ }
@@ -36,7 +36,7 @@ fn told(outcome: SwitchOutcome) -> SwitchAnswer
 fn deferred(state: Cgb) -> bool
     ensures { λ r. ⌜ r ≡ defers state ⌝ }
 {
-    let ready = speed_switch::switch::ready_block(state.vram_dma);
+    let ready = cut::ready_block(state.vram_dma);
     state.double_speed & ready
 }
 
@@ -105,7 +105,7 @@ pub fn drain_speed_switch_blackout(state: Cgb, elapsed: u32) -> Flagged
             state: state,
         };
     }
-    let drained = speed_switch::blackout::drain_blackout(state, elapsed);
+    let drained = blackout::drain_blackout(state, elapsed);
     let after = drained.state;
     Flagged {
         answer: FlagAnswer::Flag(drained.flag),
@@ -122,7 +122,7 @@ pub fn speed_switch_wake_ready(state: Cgb, mcycle_boundary: bool) -> Flagged
             state: state,
         };
     }
-    let woken = speed_switch::blackout::wake_intake_ready(state, mcycle_boundary);
+    let woken = blackout::wake_intake_ready(state, mcycle_boundary);
     let after = woken.state;
     Flagged {
         answer: FlagAnswer::Flag(woken.flag),

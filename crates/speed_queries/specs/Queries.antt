@@ -3,7 +3,8 @@
 use Prim.Native.Nat.{ℕ}
 use mathlib.Core.Bool.{Bool}
 use Rattle.console.specs.declared.Cgb.{Cgb}
-use Rattle.speed_switch.specs.Speed.{stepsPerDot, blackoutActive, dividerActive}
+use Rattle.speed_switch.specs.Speed.{stepsPerDot}
+use Rattle.blackout.specs.Blackout.{blackoutActive, dividerActive}
 
 abbrev pub switchInProgress : Cgb → Bool
 switchInProgress s = blackoutActive (s .«speed_switch_blackout»)

@@ -5,7 +5,7 @@ use mathlib.Core.Path.{_≡_}
 use mathlib.Core.Bool.{true, false}
 use Rattle.console.specs.Reached.{unreached}
 use Rattle.console.specs.declared.Cgb.{Cgb}
-use Rattle.speed_switch.specs.SpeedSteps.{DividerRuns}
+use Rattle.blackout.specs.BlackoutSteps.{DividerRuns}
 use Rattle.answers.specs.Queries.{Asks, byteOf}
 use Rattle.answers.specs.declared.ByteAnswer.the-variants.{Byte}
 use Rattle.speed_queries.specs.Queries.{switchInProgress, dividerRuns, atDoubleSpeed, cpuSteps}

@@ -13,7 +13,7 @@ pub fn speed_switch_in_progress(state: Cgb) -> FlagAnswer
     if state.unreached() {
         return FlagAnswer::Refused(refusal::STATE);
     }
-    FlagAnswer::Flag(speed_switch::blackout_active(state.speed_switch_blackout))
+    FlagAnswer::Flag(blackout::blackout_active(state.speed_switch_blackout))
 }
 
 pub fn speed_switch_divider_active(state: Cgb) -> FlagAnswer
@@ -22,7 +22,7 @@ pub fn speed_switch_divider_active(state: Cgb) -> FlagAnswer
     if state.unreached() {
         return FlagAnswer::Refused(refusal::STATE);
     }
-    FlagAnswer::Flag(speed_switch::blackout_divider_active(
+    FlagAnswer::Flag(blackout::blackout_divider_active(
         state.double_speed,
         state.speed_switch_blackout,
     ))

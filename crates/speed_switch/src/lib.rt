@@ -3,7 +3,7 @@ pub mod switch;
 
 ghost use mathlib.Core.Path.{_≡_};
 ghost use Rattle.speed_switch.specs.Speed.{stepsPerDot};
-use countdown::pick::pick8;
+use arithmetic::pick::pick8;
 
 // CPU steps in a dot.
 pub fn steps_per_dot(double_speed: bool) -> u8

@@ -1,9 +1,9 @@
 // The switch itself (speed_switch.rs, `attempt_speed_switch`), where nothing defers it.
 ghost use mathlib.Core.Path.{_≡_};
 ghost use Rattle.speed_switch.specs.Switch.{blackoutOf, debitAfter, switchedOf};
+use arithmetic::pick::pick32;
 use blackout::relock_edges;
 use console::Cgb;
-use countdown::pick::pick32;
 use cut::SwitchOutcome;
 
 // What a switch attempt is given.

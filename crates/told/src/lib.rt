@@ -15,7 +15,6 @@ use answers::StatusAnswer;
 use answers::SwitchAnswer;
 use answers::TallyAnswer;
 use console::Cgb;
-use console::same;
 use transfer::VramDmaStatus;
 use transfer::pair::BytePair;
 
@@ -39,7 +38,7 @@ pub struct Performed {
 pub fn quiet(told: Told, state: Cgb) -> Performed
     ensures { λ r. ⌜ r ≡ quietly told state ⌝ }
 {
-    let same = same::cgb(state);
+    let same = rebuild::cgb(state);
     Performed {
         told: told,
         pairs: [BytePair { source: 0, dest: 0 }; 2],

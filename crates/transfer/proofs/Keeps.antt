@@ -12,7 +12,7 @@ use Rattle.transfer.specs.declared.pair.NextAnswer.the-variants.{Pair, N
 use Rattle.transfer.specs.declared.pair.NextByte.{NextByte}
 
 pub keeps-refl : (d : VramDma) → KeepsMarks d d
-keeps-refl d = record { pend = refl; from-arm = refl; granted = refl; armed = refl; taken = refl }
+keeps-refl d = record { pend = refl; from-arm = refl; granted = refl; strobe = refl; taken = refl }
 
 -- a property of engines that a pair keeps, kept by the call that may take one
 pub next-keeps : (P : VramDma → Type 0) (d : VramDma) → P d → P (advancedOf d) → P (nextByteOf d .dma)
@@ -35,17 +35,17 @@ drain-keeps P d same one moved = by (d .cursor .«escape_byte» && movingOf d)
 
 advanced-marks : (d : VramDma) → KeepsMarks d (advancedOf d)
 unfolding advancedOf blockAfter arbAfter
-advanced-marks d = record { pend = refl; from-arm = refl; granted = refl; armed = refl; taken = refl }
+advanced-marks d = record { pend = refl; from-arm = refl; granted = refl; strobe = refl; taken = refl }
 
 drained-marks : (d : VramDma) → KeepsMarks d (advancedOf (withQuota 1 d))
 unfolding advancedOf blockAfter arbAfter
-drained-marks d = record { pend = refl; from-arm = refl; granted = refl; armed = refl; taken = refl }
+drained-marks d = record { pend = refl; from-arm = refl; granted = refl; strobe = refl; taken = refl }
 
 one-marks : (d : VramDma) → KeepsMarks d (withQuota 1 d)
-one-marks d = record { pend = refl; from-arm = refl; granted = refl; armed = refl; taken = refl }
+one-marks d = record { pend = refl; from-arm = refl; granted = refl; strobe = refl; taken = refl }
 
 retired-marks : (d : VramDma) → KeepsMarks d (retiredOf d)
-retired-marks d = record { pend = refl; from-arm = refl; granted = refl; armed = refl; taken = refl }
+retired-marks d = record { pend = refl; from-arm = refl; granted = refl; strobe = refl; taken = refl }
 
 advanced-bits : (d : VramDma) → SixteenBits (advancedOf d .cursor)
 unfolding advancedOf cursorAfter

@@ -12,7 +12,7 @@ pub record KeepsMarks (d e : VramDma) : Type 0 where
   pub pend : e .arb .pend ≡ d .arb .pend
   pub from-arm : e .arb .«pend_from_arm» ≡ d .arb .«pend_from_arm»
   pub granted : e .arb .«pend_granted» ≡ d .arb .«pend_granted»
-  pub armed : e .arb .«armed_this_fall» ≡ d .arb .«armed_this_fall»
+  pub strobe : e .arb .«armed_this_fall» ≡ d .arb .«armed_this_fall»
   pub taken : e .block .taken ≡ d .block .taken
 
 pub record SixteenBits (c : TransferCursor) : Type 0 where

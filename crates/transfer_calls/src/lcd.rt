@@ -15,7 +15,7 @@ pub fn vram_dma_lcd_disabled(state: Cgb) -> Done
             state: state,
         };
     }
-    let dma = transfer::on_lcd_disabled(state.vram_dma);
+    let dma = dma_events::on_lcd_disabled(state.vram_dma);
     let mut after = state;
     after.vram_dma = dma;
     after.switch_relock_debit = false;
@@ -34,7 +34,7 @@ pub fn vram_dma_instruction_retired(state: Cgb) -> Done
             state: state,
         };
     }
-    let dma = transfer::instruction_retired(state.vram_dma);
+    let dma = dma_events::instruction_retired(state.vram_dma);
     let mut after = state;
     after.vram_dma = dma;
     Done {

@@ -6,7 +6,6 @@ use answers::Handed;
 use answers::PairAnswer;
 use console::Cgb;
 use console::refusal;
-use console::same;
 use transfer::pair::NextAnswer;
 
 fn handed(answer: NextAnswer) -> PairAnswer
@@ -22,16 +21,16 @@ pub fn next_byte(state: Cgb) -> Handed
     ensures { λ r. ⌜ Answers handedSays (nextPairOf state) (nextPairSaid state) r ⌝ }
 {
     if state.unreached() {
-        let same = same::cgb(state);
+        let same = rebuild::cgb(state);
         return Handed {
             answer: PairAnswer::Refused(refusal::STATE),
             state: same,
         };
     }
-    let next = transfer::pair::next_byte(state.vram_dma);
+    let next = next_pair::next_byte(state.vram_dma);
     let found = next.answer;
     let answer = handed(found);
-    let after = same::cgb_with(state, next.dma);
+    let after = rebuild::with_vram_dma(state, next.dma);
     Handed {
         answer: answer,
         state: after,
@@ -42,16 +41,16 @@ pub fn vram_dma_drain_escape(state: Cgb) -> Handed
     ensures { λ r. ⌜ Answers handedSays (escapeDrainOf state) (escapeDrainSaid state) r ⌝ }
 {
     if state.unreached() {
-        let same = same::cgb(state);
+        let same = rebuild::cgb(state);
         return Handed {
             answer: PairAnswer::Refused(refusal::STATE),
             state: same,
         };
     }
-    let drained = transfer::pair::drain_escape(state.vram_dma);
+    let drained = next_pair::drain_escape(state.vram_dma);
     let found = drained.answer;
     let answer = handed(found);
-    let after = same::cgb_with(state, drained.dma);
+    let after = rebuild::with_vram_dma(state, drained.dma);
     Handed {
         answer: answer,
         state: after,

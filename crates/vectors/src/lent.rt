@@ -1,7 +1,7 @@
 // Lent memory in a vector: its contents are a rule of the index and a seed, the same as the original's
 // side has, so that a vector names only the bytes that a call changed.
 ghost use Prim.Native.Nat.{_≤_};
-use countdown::step::wide;
+use arithmetic::step::wide;
 use memory::byte_at;
 use memory::put_at;
 

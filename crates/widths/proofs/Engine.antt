@@ -7,22 +7,22 @@ use Rattle.console.specs.declared.vram_dma.HaltArbiter.{HaltArbiter}
 use Rattle.console.specs.declared.vram_dma.HblankBlock.{HblankBlock}
 use Rattle.console.specs.declared.vram_dma.VramDma.{VramDma}
 use Rattle.countdown.specs.Countdown.{armed}
-use Rattle.bus.specs.Commit.{Taken, after, takenOf, pairsOf, busTaken}
+use Rattle.bus.specs.Commit.{Taken, afterAnswer, takenOf, pairsOf, busTaken}
 use Rattle.bus.specs.declared.commit.BusInput.{BusInput}
-use Rattle.fall_edge.specs.View.{gates, viewOf}
-use Rattle.fall_edge.specs.Stages.{inertOf, settledOf, observedArb, observedOf, reverts, judgedBlock, ungrantedArb}
-use Rattle.fall_edge.specs.Stages.{probationOf, joinsHalt, droppedBlock, haltLatchArb, haltLatchOf, refilledOf, agedArb, pendedArb}
-use Rattle.fall_edge.specs.Stages.{grantedArb, gatedOf, blindsArb, blindsOf, commits, overflows, drives, precharged, commitBlock}
-use Rattle.fall_edge.specs.Stages.{commitArb, commitOf, tenureArb, tenureOf, pends, pendArb, pendOf, readyBlock, readinessOf}
-use Rattle.fall_edge.specs.Stages.{seizedBlock, seizureOf}
-use Rattle.fall_edge.specs.Fall.{startedOf, servedOf, decidedOf, ranOf, fallOf}
-use Rattle.fall_edge.specs.declared.FallInput.{FallInput}
-use Rattle.fall_edge.specs.declared.Fallen.{Fallen}
-use Rattle.fall_edge.specs.declared.View.{View}
+use Rattle.fall_stages.specs.Fall.{gates, viewOf}
+use Rattle.fall_stages.specs.Fall.{inertOf, settledOf, observedArb, observedOf, reverts, judgedBlock, ungrantedArb}
+use Rattle.fall_stages.specs.Fall.{probationOf, joinsHalt, droppedBlock, haltLatchArb, haltLatchOf, refilledOf, agedArb, pendedArb}
+use Rattle.fall_stages.specs.Fall.{grantedArb, gatedOf, blindsArb, blindsOf, commits, overflows, drives, precharged, commitBlock}
+use Rattle.fall_stages.specs.Fall.{commitArb, commitOf, tenureArb, tenureOf, pends, pendArb, pendOf, readiedBlock, readinessOf}
+use Rattle.fall_stages.specs.Fall.{seizedBlock, seizureOf}
+use Rattle.fall_stages.specs.Fall.{startedOf, servedOf, decidedOf, ranOf, fallOf}
+use Rattle.fall_stages.specs.declared.FallInput.{FallInput}
+use Rattle.fall_stages.specs.declared.Fallen.{Fallen}
+use Rattle.fall_stages.specs.declared.View.{View}
 use Rattle.hdma.specs.Hdma5 as hdma
 use Rattle.hdma.specs.Hdma5.{hdma5Written, armedOf, cancelledOf}
-use Rattle.speed_switch.specs.Switch as switch
-use Rattle.speed_switch.specs.Switch.{ungranted, cutOf, discardedOf, gradedOf, upwardOf, engineAfter}
+use Rattle.cut.specs.Cut as switch
+use Rattle.cut.specs.Cut.{ungranted, cutOf, discardedOf, gradedOf, upwardOf, engineAfter}
 use Rattle.transfer.specs.Latch.{latchesDark, latchedBlock, latchedOf, unclaimed, lcdDisabledOf}
 use Rattle.transfer.specs.Pair.{movingOf, blockAfter, arbAfter, advancedOf, withQuota, nextByteOf, drainOf}
 use Rattle.transfer.specs.Questions.{seizesBus}
@@ -236,7 +236,7 @@ newly-pended b v d f = record { block = f .block; arb = by (pends b v d) }
     by false = f .arb
 
 readied : (double : Bool) (d : VramDma) → EngineFits d → EngineFits (readinessOf double d)
-unfolding readinessOf readyBlock
+unfolding readinessOf readiedBlock
 readied double d f =
     let w = f .block in
     record {
@@ -307,7 +307,7 @@ taken (suc n) d f = by (nextByteOf d .answer) (taken n (nextByteOf d .dma) (next
   where
     by :
         (a : NextAnswer) → EngineFits (takenOf n (nextByteOf d .dma) .dma) →
-        EngineFits (after d a (takenOf n (nextByteOf d .dma)) .dma)
+        EngineFits (afterAnswer d a (takenOf n (nextByteOf d .dma)) .dma)
     by (next.Pair p) more = more
     by next.None more = f
 
@@ -334,7 +334,7 @@ lcd-fits d f =
     choose (latchesDark d) _ _ (latched (unclaimed d) g) g
 
 pub hdma5-fits : (v : ℕ) (lcd : Bool) (d : VramDma) → EngineFits d → EngineFits (hdma5Written v lcd d)
-unfolding hdma5Written armedOf cancelledOf hdma.startedOf
+unfolding hdma5Written armedOf cancelledOf hdma.generalStarted
 hdma5-fits v lcd d f =
     let ungranted = granted-set (d .arb) (f .arb) 0 (lit< tt) in
     choose (leb 128 v) _ _

@@ -8,7 +8,7 @@ use lib.Dec.{ltb, lit<}
 use lib.ListN.{set, getD, replicate, length-set, length-replicate}
 use borrow.Author.Tests.{ltb-true}
 use Rattle.codec.specs.Fits.{Bytes}
-use Rattle.countdown.specs.Countdown.{saturatingInc}
+use Rattle.arithmetic.specs.SmallSteps.{saturatingInc}
 
 -- either is below n
 pub pick : {n x y : ℕ} (b : Bool) → x < n → y < n → cond b x y < n

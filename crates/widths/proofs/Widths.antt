@@ -17,13 +17,13 @@ use Rattle.console.specs.declared.WakeLatency.the-variants as latency
 use Rattle.console.specs.declared.vram_dma.VramDma.{VramDma}
 use Rattle.console.proofs.Reached as seven
 use Rattle.registers.specs.Map.{KEY0, KEY1, VBK, HDMA1, HDMA2, HDMA3, HDMA4, HDMA5, SVBK, FF72, FF73, FF74, FF75}
-use Rattle.registers.specs.Map.{Place, workRam, bankedRam, extraOam, register, unmapped, placeOf, isMapped}
-use Rattle.registers.specs.Write.{stateAt, locked, storedOf, mapWriteOf}
-use Rattle.registers.specs.declared.MapWritten.{MapWritten}
-use Rattle.registers.specs.declared.WriteInput.{WriteInput}
-use Rattle.speed_switch.specs.Blackout.{latencyAfterWake, drainedOf, wokenOf}
+use Rattle.registers.specs.Map.{Place, workRam, bankedRam, extraOam, register, unmapped, placeOf, writable}
+use Rattle.map_write.specs.Write.{stateAt, locked, storedOf, mapWriteOf}
+use Rattle.map_write.specs.declared.MapWritten.{MapWritten}
+use Rattle.map_write.specs.declared.WriteInput.{WriteInput}
+use Rattle.blackout.specs.Blackout.{latencyAfterWake, drainedOf, wokenOf}
 use Rattle.speed_switch.specs.Switch.{blackoutOf, switchedOf}
-use Rattle.engine.specs.Fall.{fallenState}
+use Rattle.engine.specs.Calls.{fallenState}
 use Rattle.ledger.specs.Calls
 use Rattle.ledger.specs.Calls.{Call, Outcome, step}
 use Rattle.ledger.specs.Demand3.{History, RunsTo, at-power-on, called}
@@ -125,7 +125,7 @@ module _ (s : Cgb) (w : WriteInput) (byte : w .value < 256) (f : Small s) where
   unfolding mapWriteOf storedOf
   written a = by (locked s a)
     where
-      by : (b : Bool) → Small (cond {A = MapWritten} b (record { mapped = isMapped (placeOf a); state = s }) (storedOf s w a) .state)
+      by : (b : Bool) → Small (cond {A = MapWritten} b (record { mapped = writable (placeOf a); state = s }) (storedOf s w a) .state)
       by true = f
       by false = stored (placeOf a)
 
@@ -246,8 +246,8 @@ run-fits h s r i =
       cursor = record {
         source = omega (arith, pointers .0);
         dest = omega (arith, pointers .1);
-        remaining = omega (arith, within .left);
-        quota = omega (arith, within .quota);
+        remaining = omega (arith, within .engine .left);
+        quota = omega (arith, within .engine .quota);
       };
       block = record {
         remaining = block .remaining;
@@ -264,7 +264,7 @@ run-fits h s r i =
         «wake_pend_blind» = arb .pend-blind;
         «granted_ahead» = arb .granted;
       };
-      svbk = omega (arith, within .svbk);
+      svbk = omega (arith, within .banks .svbk);
       «speed_switch_blackout» = rest .blackout;
       «speed_switch_wake_latency» = rest .wake;
       ff72 = rest .ff72;
@@ -272,7 +272,7 @@ run-fits h s r i =
       ff74 = rest .ff74;
       ff75 = rest .ff75;
       «extra_oam» = rest .extra;
-      selected = omega (arith, within .bank);
+      selected = omega (arith, within .banks .bank);
       «blackout_anchor» = rest .anchor;
     }
 

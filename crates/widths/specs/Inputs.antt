@@ -2,7 +2,7 @@
 -- value is a byte stands in the call itself.
 use Prim.Native.Nat.{ℕ, _<_, _^_}
 use Rattle.bus.specs.declared.commit.BusInput.{BusInput}
-use Rattle.fall_edge.specs.declared.FallInput.{FallInput}
+use Rattle.fall_stages.specs.declared.FallInput.{FallInput}
 use Rattle.speed_switch.specs.declared.switch.SwitchInput.{SwitchInput}
 use Rattle.ledger.specs.Calls
 use Rattle.ledger.specs.Calls.{Call}

@@ -113,7 +113,7 @@ fn write(address: u16, value: u8, lcd_on: bool) -> Call {
 
 /// hold is bit 0, interrupt ready bit 1.
 fn switch(phase: u8, flags: u8) -> Call {
-    let mut c = plain(kind::SWITCH);
+    let mut c = plain(kind::SPEED_SWITCH);
     c.record[4] = phase;
     c.record[5] = flags;
     c.record[8..16].copy_from_slice(&EDGE.to_le_bytes());
@@ -128,13 +128,13 @@ fn with_flags(kind: u8, flags: u8) -> Call {
 }
 
 fn bus(flags: u8, oam_edge: u64) -> Call {
-    let mut c = with_flags(kind::BUS, flags);
+    let mut c = with_flags(kind::BUS_CALL, flags);
     c.record[8..16].copy_from_slice(&oam_edge.to_le_bytes());
     c
 }
 
 fn elapsed(edges: u32) -> Call {
-    let mut c = plain(kind::BLACKOUT);
+    let mut c = plain(kind::BLACKOUT_DRAIN);
     c.record[8..12].copy_from_slice(&edges.to_le_bytes());
     c
 }
@@ -256,7 +256,7 @@ fn questions(a: &mut Aim) {
     let asked = [kind::REQUEST_STANDING, kind::HOLDS_CPU, kind::SEIZES_BUS].map(plain);
     a.around(a.rest(), &changes, &asked);
     a.around(block, &changes, &asked);
-    a.around(block, &[&[(PARK, 1)], &[(PARK, 1), (BLOCK, 0), (LEFT, 0)]], &[plain(kind::PARK)]);
+    a.around(block, &[&[(PARK, 1)], &[(PARK, 1), (BLOCK, 0), (LEFT, 0)]], &[plain(kind::PARK_WAITS_FOR_FETCH)]);
     let told = a.rest().with(&[(SOURCE, 0x1234), (DEST, 0xABCD), (LEFT, 0x0567)]);
     let modes: [Settings; 4] = [&[(MODE, 1)], &[(MODE, 2)], &[(ESCAPE, 1)], &[(MODE, 2), (DEST, 0x5FFF), (LEFT, 2048)]];
     a.around(told, &modes, &[kind::TALLY, kind::STATUS].map(plain));
@@ -264,14 +264,14 @@ fn questions(a: &mut Aim) {
         a.ask(a.rest().with(&[(COMMITTED, committed), (STANDING, standing)]), plain(kind::CLAIM));
     }
     for svbk in 0..8 {
-        for asked in [kind::WRAM_BANK, kind::SVBK] {
+        for asked in [kind::WRAM_BANK, kind::SVBK_REGISTER] {
             a.ask(a.rest().with(&[(SVBK, svbk)]), plain(asked));
         }
     }
     for blackout in [0, 1, 2, 3, 4, 5, 6, 255, 256, 65_536, 131_077, 1 << 24, u32::MAX as u64] {
-        a.around_both(a.rest().with(&[(BLACKOUT, blackout)]), &[], &[kind::BLACKOUT_ACTIVE, kind::DIVIDER_ACTIVE].map(plain));
+        a.around_both(a.rest().with(&[(BLACKOUT, blackout)]), &[], &[kind::SWITCH_IN_PROGRESS, kind::DIVIDER_ACTIVE].map(plain));
     }
-    a.around_both(a.rest(), &[&[(BLACKOUT, 9)]], &[kind::DOUBLE_SPEED, kind::STEPS_PER_DOT].map(plain));
+    a.around_both(a.rest(), &[&[(BLACKOUT, 9)]], &[kind::DOUBLE_SPEED, kind::CPU_STEPS_PER_DOT].map(plain));
 }
 
 /// Arbitration: each operand of the contention, of the stall and of will_move off by itself, for every input.
@@ -293,8 +293,8 @@ fn arbitration(a: &mut Aim) {
         &[(WAS_TRANSFERRING, 1), (ESCAPE, 0)],
         &[(CONTENDED, 1), (LEFT, 0)],
     ];
-    let inputs: Vec<Call> = (0..8).map(|flags| with_flags(kind::ARBITRATE, flags)).collect();
-    a.around_both(moving, &changes, &[5, 6, 1].map(|flags| with_flags(kind::ARBITRATE, flags)));
+    let inputs: Vec<Call> = (0..8).map(|flags| with_flags(kind::ARBITRATION, flags)).collect();
+    a.around_both(moving, &changes, &[5, 6, 1].map(|flags| with_flags(kind::ARBITRATION, flags)));
     a.around_both(moving, &[&[(WAS_TRANSFERRING, 1)]], &inputs);
 }
 

@@ -270,7 +270,7 @@ impl Oracle {
                     answer = Answer::values(&[1, source, dest]);
                 }
             }
-            kind::SWITCH => {
+            kind::SPEED_SWITCH => {
                 let phase = call.record[4];
                 if phase > 4 {
                     return declined(3);
@@ -295,11 +295,11 @@ impl Oracle {
                 answer = Answer::value(if cut { 2 } else { discarded as u8 });
             }
             kind::LCD_OFF => self.cgb.vram_dma_on_lcd_disabled(),
-            kind::BLACKOUT => {
+            kind::BLACKOUT_DRAIN => {
                 let elapsed = u32::from_le_bytes(call.record[8..12].try_into().unwrap());
                 answer = Answer::value(self.cgb.drain_blackout(elapsed));
             }
-            kind::BUS => {
+            kind::BUS_CALL => {
                 if !(0..4).all(|k| call.whole(k)) {
                     return declined(2);
                 }
@@ -322,7 +322,7 @@ impl Oracle {
                     answer = answer.with_pair(k, *source, *dest, *byte);
                 }
             }
-            kind::ARBITRATE => {
+            kind::ARBITRATION => {
                 self.cgb.console_state.set_dma_cpu_hold(call.bit(0));
                 self.cgb.console_state.set_bus_suspended(call.bit(1));
                 self.chassis.dma.transferring = call.bit(2);
@@ -352,16 +352,16 @@ impl Oracle {
                 let claim = self.cgb.console_state.vram_dma_claim();
                 answer = Answer::values(&[claim.committed.into(), claim.standing.into()]);
             }
-            kind::PARK => answer = Answer::value(self.cgb.vram_dma.arb.park_waits_for_fetch),
+            kind::PARK_WAITS_FOR_FETCH => answer = Answer::value(self.cgb.vram_dma.arb.park_waits_for_fetch),
             kind::REQUEST_STANDING => answer = Answer::value(self.cgb.vram_dma.request_standing()),
             kind::HOLDS_CPU => answer = Answer::value(self.cgb.vram_dma.holds_cpu()),
             kind::SEIZES_BUS => answer = Answer::value(self.cgb.vram_dma.seizes_bus()),
-            kind::BLACKOUT_ACTIVE => answer = Answer::value(self.cgb.blackout_active()),
+            kind::SWITCH_IN_PROGRESS => answer = Answer::value(self.cgb.blackout_active()),
             kind::DIVIDER_ACTIVE => answer = Answer::value(self.cgb.blackout_divider_active()),
             kind::DOUBLE_SPEED => answer = Answer::value(self.cgb.double_speed()),
-            kind::STEPS_PER_DOT => answer = Answer::value(self.cgb.steps_per_dot()),
+            kind::CPU_STEPS_PER_DOT => answer = Answer::value(self.cgb.steps_per_dot()),
             kind::WRAM_BANK => answer = Answer::value(self.cgb.wram_bank()),
-            kind::SVBK => answer = Answer::value(self.cgb.svbk_register()),
+            kind::SVBK_REGISTER => answer = Answer::value(self.cgb.svbk_register()),
             other => unreachable!("kind {other}"),
         }
         Outcome { answer, state: self.store(), changes }

@@ -53,7 +53,7 @@ impl Case<'_> {
     }
     /// A held bus call: its pairs, and whether it took a set-up cell.
     fn bus(&mut self, oam_edge: u64) -> (Vec<(u16, u16)>, bool) {
-        let mut c = Call::new(kind::BUS);
+        let mut c = Call::new(kind::BUS_CALL);
         c.record[5] = 1;
         c.record[8..16].copy_from_slice(&oam_edge.to_le_bytes());
         let a = self.call(c);
@@ -63,14 +63,14 @@ impl Case<'_> {
     }
     /// 0 none, 1 discarded, 2 cut.
     fn switch(&mut self, phase: u8) -> u16 {
-        let mut c = Call::new(kind::SWITCH);
+        let mut c = Call::new(kind::SPEED_SWITCH);
         c.record[4] = phase;
         let a = self.call(c);
         assert_eq!(a.refusal(), 0);
         a.nth(0)
     }
     fn drain_blackout(&mut self, elapsed: u32) {
-        let mut c = Call::new(kind::BLACKOUT);
+        let mut c = Call::new(kind::BLACKOUT_DRAIN);
         c.record[8..12].copy_from_slice(&elapsed.to_le_bytes());
         assert_eq!(self.call(c).nth(0), 1);
     }
@@ -158,10 +158,10 @@ fn k8(c: &mut Case, block_edge: u64, oam_edge: u64, second: bool) {
     c.fall(0, 0, 0);
     assert_eq!(c.bus(0), (vec![], true));
     c.fall(0, 0, 0);
-    let mut arbitrate = Call::new(kind::ARBITRATE);
+    let mut arbitrate = Call::new(kind::ARBITRATION);
     arbitrate.record[5] = 5;
     assert_eq!(c.call(arbitrate).nth(0), 1);
-    let mut bus = Call::new(kind::BUS);
+    let mut bus = Call::new(kind::BUS_CALL);
     bus.record[1] = 7;
     bus.record[5] = 1;
     bus.record[8..16].copy_from_slice(&oam_edge.to_le_bytes());

@@ -158,7 +158,7 @@ impl Run {
 
     fn raise(&mut self, call: &mut Call) {
         if let Some(last) = self.rising
-            && matches!(call.record[0], kind::FALL | kind::SWITCH)
+            && matches!(call.record[0], kind::FALL | kind::SPEED_SWITCH)
         {
             let edge = last.saturating_add(call.edge() % 8);
             call.record[8..16].copy_from_slice(&edge.to_le_bytes());
@@ -232,7 +232,7 @@ impl Run {
         if number == 0 {
             self.report.answers[which][answer.0[2].min(2) as usize] += 1;
         }
-        if call.record[0] == kind::BUS && number == 0 && answer.nth(0) > 0 && before[40] == 1 {
+        if call.record[0] == kind::BUS_CALL && number == 0 && answer.nth(0) > 0 && before[40] == 1 {
             self.report.deposits += 1;
         }
         outcome.state

@@ -100,9 +100,9 @@ fn two_reasons(v: &Vector) -> bool {
     let r = &v.call.record;
     let other = match r[0] {
         kind::FALL => r[4] > 3,
-        kind::SWITCH => r[4] > 4 || r[5] & 1 == 1,
+        kind::SPEED_SWITCH => r[4] > 4 || r[5] & 1 == 1,
         kind::READ | kind::WRITE => wrong_wram(&v.call),
-        kind::BUS => v.call.lengths != Call::new(kind::BUS).lengths,
+        kind::BUS_CALL => v.call.lengths != Call::new(kind::BUS_CALL).lengths,
         _ => false,
     };
     unreached(&v.before) && other
@@ -116,9 +116,9 @@ fn own_sort(v: &Vector) -> Vec<u16> {
         kind::READ | kind::WRITE => access_sort(v),
         kind::CLAIM => vec![answer.nth(1)],
         kind::WRITE_CONFLICT => vec![before[21].min(3) as u16],
-        kind::BLACKOUT_ACTIVE | kind::DIVIDER_ACTIVE => vec![blackout.min(7) as u16, before[43] as u16],
-        kind::BUS => vec![answer.nth(0), answer.nth(1), place(answer.pair(0).0)],
-        kind::WRAM_BANK | kind::SVBK => vec![answer.nth(0)],
+        kind::SWITCH_IN_PROGRESS | kind::DIVIDER_ACTIVE => vec![blackout.min(7) as u16, before[43] as u16],
+        kind::BUS_CALL => vec![answer.nth(0), answer.nth(1), place(answer.pair(0).0)],
+        kind::WRAM_BANK | kind::SVBK_REGISTER => vec![answer.nth(0)],
         _ => Vec::new(),
     }
 }

@@ -24,6 +24,7 @@ mod cases;
 mod compare;
 pub mod entry;
 mod finer;
+#[path = "../../../rust/src/kind.rs"]
 mod kind;
 mod layout;
 pub mod loops;

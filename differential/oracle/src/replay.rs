@@ -83,10 +83,10 @@ impl Replay {
             kind::WRITE => return self.write(call),
             kind::FALL => return self.fall(call),
             kind::NEXT_PAIR => return (0, self.cgb.vram_dma.next_byte().is_some()),
-            kind::SWITCH => return self.switch(call),
+            kind::SPEED_SWITCH => return self.switch(call),
             kind::LCD_OFF => self.cgb.vram_dma_on_lcd_disabled(),
             kind::ESCAPE_DRAIN => return (0, self.cgb.vram_dma.drain_escape().is_some()),
-            kind::BLACKOUT => {
+            kind::BLACKOUT_DRAIN => {
                 let elapsed = u32::from_le_bytes(call.record[8..12].try_into().unwrap());
                 self.cgb.drain_blackout(elapsed);
             }
@@ -155,7 +155,7 @@ pub fn run(input: &mut impl Read, output: &mut impl Write) -> std::io::Result<()
 
 /// A script of COUNT records, most of them as a program would give them; one in 64 is of no kind. The last one is short.
 pub fn script(seed: u64, count: u64, output: impl Write) -> std::io::Result<()> {
-    let kinds: Vec<u8> = (kind::WRITE..=kind::BLACKOUT).collect();
+    let kinds: Vec<u8> = (kind::WRITE..=kind::BLACKOUT_DRAIN).collect();
     let mut r = Random::new(seed);
     let mut out = BufWriter::new(output);
     let mut phase = 5;

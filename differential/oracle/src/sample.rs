@@ -16,12 +16,12 @@ fn ignored(kind: u8) -> Record {
     used[0] = 0xFF;
     match kind {
         kind::WRITE => used[2..6].fill(0xFF),
-        kind::FALL | kind::SWITCH => {
+        kind::FALL | kind::SPEED_SWITCH => {
             used[4] = 0xFF;
             used[5] = if kind == kind::FALL { 0x0F } else { 0x03 };
             used[8..].fill(0xFF);
         }
-        kind::BLACKOUT => used[8..12].fill(0xFF),
+        kind::BLACKOUT_DRAIN => used[8..12].fill(0xFF),
         _ => {}
     }
     used.map(|bits: u8| !bits)
@@ -49,14 +49,14 @@ fn fall(mode: u8, flags: u8) -> Record {
 }
 
 fn switch(phase: u8, flags: u8) -> Record {
-    let mut record = plain(kind::SWITCH);
+    let mut record = plain(kind::SPEED_SWITCH);
     record[4] = phase;
     record[5] = flags;
     record
 }
 
 fn blackout(elapsed: u32) -> Record {
-    let mut record = plain(kind::BLACKOUT);
+    let mut record = plain(kind::BLACKOUT_DRAIN);
     record[8..12].copy_from_slice(&elapsed.to_le_bytes());
     record
 }
@@ -91,8 +91,8 @@ impl Script {
             let record = match kind {
                 kind::WRITE => write(0xFF55, 0x7F),
                 kind::FALL => fall(3, 0),
-                kind::SWITCH => switch(5, 0),
-                kind::BLACKOUT => blackout(7),
+                kind::SPEED_SWITCH => switch(5, 0),
+                kind::BLACKOUT_DRAIN => blackout(7),
                 _ => plain(kind),
             };
             self.put_junked(&[record]);
@@ -156,7 +156,7 @@ impl Script {
 
     /// Calls as the other runs make them, up to the script's length.
     fn rest(&mut self) {
-        let kinds: Vec<u8> = (kind::WRITE..=kind::BLACKOUT).collect();
+        let kinds: Vec<u8> = (kind::WRITE..=kind::BLACKOUT_DRAIN).collect();
         let mut phase = 5;
         while self.records.len() < RECORDS {
             let step = self.records.len() as u64;

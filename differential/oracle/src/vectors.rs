@@ -54,16 +54,16 @@ pub fn call(r: &mut Random, kinds: &[u8]) -> Call {
             };
             c.record[8..16].copy_from_slice(&edge(r).to_le_bytes());
         }
-        kind::SWITCH => {
+        kind::SPEED_SWITCH => {
             c.record[4] = if r.one_in(20) { r.byte() } else { r.below(5) as u8 };
             c.record[5] = if r.one_in(4) { r.next() as u8 } else { 0 };
             c.record[8..16].copy_from_slice(&edge(r).to_le_bytes());
         }
-        kind::BLACKOUT => {
+        kind::BLACKOUT_DRAIN => {
             let elapsed = r.next() as u32 >> r.below(32);
             c.record[8..12].copy_from_slice(&elapsed.to_le_bytes());
         }
-        kind::BUS | kind::ARBITRATE | kind::WAKE_INTAKE => {
+        kind::BUS_CALL | kind::ARBITRATION | kind::WAKE_INTAKE => {
             c.record[5] = r.next() as u8;
             c.record[8..16].copy_from_slice(&edge(r).to_le_bytes());
         }
@@ -83,12 +83,12 @@ pub fn likely(r: &mut Random, kinds: &[u8], step: u64, phase: &mut u8) -> Call {
     }
     let wanted = match r.below(20) {
         0 => kind::WRITE,
-        1 => kind::SWITCH,
+        1 => kind::SPEED_SWITCH,
         2..=11 => kind::FALL,
-        12..=15 => kind::BUS,
-        16 => kind::ARBITRATE,
+        12..=15 => kind::BUS_CALL,
+        16 => kind::ARBITRATION,
         17 => kind::NEXT_PAIR,
-        18 => kind::BLACKOUT,
+        18 => kind::BLACKOUT_DRAIN,
         _ => kind::ESCAPE_DRAIN,
     };
     if !kinds.contains(&wanted) {
@@ -124,15 +124,15 @@ pub fn likely(r: &mut Random, kinds: &[u8], step: u64, phase: &mut u8) -> Call {
             } | (r.one_in(4) as u8) << 3;
             c.record[8..16].copy_from_slice(&(step * 2).to_le_bytes());
         }
-        kind::SWITCH => {
+        kind::SPEED_SWITCH => {
             c.record[4] = r.below(5) as u8;
             c.record[8..16].copy_from_slice(&(step * 2).to_le_bytes());
         }
-        kind::BUS | kind::ARBITRATE => {
+        kind::BUS_CALL | kind::ARBITRATION => {
             c.record[5] = r.pick(&[1, 1, 2, 5, 5, 0, 7]);
             c.record[8..16].copy_from_slice(&(step * 2).saturating_sub(r.below(16)).to_le_bytes());
         }
-        kind::BLACKOUT => c.record[8..12].copy_from_slice(&(r.below(300_000) as u32).to_le_bytes()),
+        kind::BLACKOUT_DRAIN => c.record[8..12].copy_from_slice(&(r.below(300_000) as u32).to_le_bytes()),
         _ => {}
     }
     c
@@ -298,7 +298,7 @@ fn phase(v: &Vector) -> u8 {
 /// with its deposit are selected.
 fn bus_sort(v: &Vector) -> Option<([u32; 4], u16, [u8; 4], u8, u8)> {
     let own = (v.call.lengths, v.answer.nth(1), v.changed(), source_part(v.answer.pair(0).0), phase(v));
-    (v.call.record[0] == kind::BUS).then_some(own)
+    (v.call.record[0] == kind::BUS_CALL).then_some(own)
 }
 
 /// What an answer says first; a tally says three numbers of the state, and then whether an escape is owed.

@@ -1,5 +1,5 @@
 -- `cursor_after` meets its contract: the destination, which has 16 bits, carries where it is FFFFh. Assumes nothing.
-use Rattle.countdown.proofs.SmallSteps.{carries}
+use Rattle.arithmetic.proofs.SmallSteps.{carries}
 use Rattle.transfer.specs.Pair.{cursorAfter}
 use Rattle.advance.proofs.cursor_after.Statement.{statement}
 use Rattle.advance.proofs.cursor_after.Tie as tie

@@ -5,7 +5,7 @@ use Rattle.fall_call.proofs.fallen_state.Tie as tie
 
 returns : tie.Need-returns
 unfolding fallenState
-returns c = rw (c .before .before .cgb-with .ensures, c .before .before .before .pick-claim .ensures)
+returns c = rw (c .before .before .with-vram-dma .ensures, c .before .before .before .pick-claim .ensures)
 
 pub fallen-state-spec : {M : Type 1} → statement M
 fallen-state-spec = tie.close (tie.spec (λ _ _. tt) (λ _ _. tt) returns)

@@ -2,7 +2,7 @@
 use mathlib.Core.Path.{refl, sym, ap, _∙_}
 use borrow.Author.Needs.{needs}
 use Rattle.answers.specs.declared.ByteAnswer.the-variants.{Byte}
-use Rattle.registers.proofs.Mapped.{unmapped-read, mapped-read}
+use Rattle.map_read.proofs.Mapped.{unmapped-read, mapped-read}
 use Rattle.register_calls.proofs.Says.{at-7, at-2, at-4, at-none, declined-read, given-read}
 use Rattle.register_calls.proofs.read.Statement.{statement}
 use Rattle.register_calls.proofs.read.Tie as tie

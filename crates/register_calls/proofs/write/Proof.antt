@@ -1,8 +1,8 @@
 -- `write` meets its contract: 7, 2 and 4 in this order with state and slice as given, else the map's write. Assumes nothing.
 use mathlib.Core.Path.{refl, sym, ap, _∙_}
 use borrow.Author.Needs.{needs}
-use Rattle.registers.specs.declared.MapWritten.{MapWritten}
-use Rattle.registers.proofs.Mapped.{write-mapped, off-map-keeps-wram}
+use Rattle.map_write.specs.declared.MapWritten.{MapWritten}
+use Rattle.map_write.proofs.Mapped.{write-mapped, off-map-keeps-wram}
 use Rattle.register_calls.proofs.Says.{at-7, at-2, at-4, at-none, declined-write, done-write}
 use Rattle.register_calls.proofs.write.Statement.{statement}
 use Rattle.register_calls.proofs.write.Tie as tie

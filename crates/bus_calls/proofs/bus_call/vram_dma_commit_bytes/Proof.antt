@@ -22,7 +22,7 @@ returns-3 c =
     let at = run .before .before .before in
     let reached = sym (at .before .before .before .unreached .ensures) ∙ at .before .before .if1 .left in
     let right = sym (at .before .wrong-lengths .ensures) ∙ at .if2 .left in
-    rw (c .cgb-with .ensures) (bus-moved _ _ _ _ _ _ _ _ _ (accepted _ _ reached right) (run .commit-bytes .ensures))
+    rw (c .with-vram-dma .ensures) (bus-moved _ _ _ _ _ _ _ _ _ (accepted _ _ reached right) (run .commit-bytes .ensures))
 
 pub vram-dma-commit-bytes-spec : {M : Type 1} → statement M
 vram-dma-commit-bytes-spec =

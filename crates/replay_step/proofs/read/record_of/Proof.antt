@@ -5,7 +5,7 @@ use mathlib.Core.List.{List}
 use native.Mathlib.Omega.{arith}
 use borrow.Author.Tests.{lt-ltb, le-ltb}
 use lib.ListN.{length}
-use Rattle.codec.specs.Number.{bytesAt}
+use Rattle.arithmetic.specs.Number.{bytesAt}
 use Rattle.record.specs.Input.{fallInputOf, switchInputOf, busInputOf, arbitrationInputOf}
 use Rattle.record.specs.Kind.{plainOf}
 use Rattle.record.specs.Record.{callOf}

@@ -15,7 +15,7 @@ returns-2 : tie.Need-returns-2
 unfolding nextPairOf
 returns-2 c =
     let passes = state-passes _ (sym (c .before .before .before .before .unreached .ensures) ∙ c .before .before .before .if1 .left) in
-    answers (next-told _) (rw (passes, c .cgb-with .ensures, c .before .handed .ensures, c .before .before .next-byte .ensures))
+    answers (next-told _) (rw (passes, c .with-vram-dma .ensures, c .before .handed .ensures, c .before .before .next-byte .ensures))
 
 pub next-byte-spec : {M : Type 1} → statement M
 next-byte-spec = tie.close (tie.spec (λ _ _. tt) (λ _ _. tt) returns (λ _ _. tt) (λ _ _. tt) (λ _ _. tt) returns-2)

@@ -15,7 +15,7 @@ returns-2 : tie.Need-returns-2
 unfolding escapeDrainOf
 returns-2 c =
     let passes = state-passes _ (sym (c .before .before .before .before .unreached .ensures) ∙ c .before .before .before .if1 .left) in
-    answers (drain-told _) (rw (passes, c .cgb-with .ensures, c .before .handed .ensures, c .before .before .drain-escape .ensures))
+    answers (drain-told _) (rw (passes, c .with-vram-dma .ensures, c .before .handed .ensures, c .before .before .drain-escape .ensures))
 
 pub vram-dma-drain-escape-spec : {M : Type 1} → statement M
 vram-dma-drain-escape-spec = tie.close (tie.spec (λ _ _. tt) (λ _ _. tt) returns (λ _ _. tt) (λ _ _. tt) (λ _ _. tt) returns-2)
