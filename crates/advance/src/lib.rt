@@ -10,12 +10,10 @@ use arithmetic::step::overflowing_add16;
 use arithmetic::step::saturating_sub16;
 use console::vram_dma::HaltArbiter;
 use console::vram_dma::HblankBlock;
-use console::vram_dma::OamContention;
 use console::vram_dma::TransferCursor;
 use console::vram_dma::TransferMode;
 use console::vram_dma::VramDma;
 use console::vram_dma::pick_mode;
-use countdown::Countdown;
 
 // The VRAM address that the next byte lands on.
 pub fn write_address(c: TransferCursor) -> u16
@@ -56,16 +54,8 @@ fn block_after(b: HblankBlock) -> HblankBlock
 {
     let last = b.remaining == 1;
     let remaining = less_one(b.remaining);
-    HblankBlock {
-        remaining: remaining,
-        start_edge: b.start_edge,
-        taken: b.taken,
-        setup_cells: Countdown(b.setup_cells.0),
-        ready_in: Countdown(b.ready_in.0),
-        seize_falls: b.seize_falls,
-        from_arm: b.from_arm & !last,
-        arm_ready_probation: b.arm_ready_probation,
-    }
+    let left = rebuild::with_block_remaining(b, remaining);
+    rebuild::with_block_from_arm(left, b.from_arm & !last)
 }
 
 // last: the pair is the block's last one; ended: nothing is left.
@@ -75,23 +65,9 @@ fn arb_after(a: HaltArbiter, last: bool, ended: bool) -> HaltArbiter
     let granted = less_one_if(last, a.granted_ahead);
     let park = a.park_waits_for_fetch & !last;
     let claim = a.idle_claim & !ended;
-    HaltArbiter {
-        pend: a.pend,
-        pend_from_arm: a.pend_from_arm,
-        armed_this_fall: a.armed_this_fall,
-        halted_falls: a.halted_falls,
-        prev_view_hblank: a.prev_view_hblank,
-        pend_age: a.pend_age,
-        pend_granted: a.pend_granted,
-        wake_tenure: Countdown(a.wake_tenure.0),
-        park_waits_for_fetch: park,
-        idle_claim: claim,
-        halt_wake_blind: Countdown(a.halt_wake_blind.0),
-        prev_cpu_halted: a.prev_cpu_halted,
-        grant_counted: a.grant_counted,
-        wake_pend_blind: Countdown(a.wake_pend_blind.0),
-        granted_ahead: granted,
-    }
+    let unparked = rebuild::with_arb_park_waits_for_fetch(a, park);
+    let unclaimed = rebuild::with_arb_idle_claim(unparked, claim);
+    rebuild::with_arb_granted_ahead(unclaimed, granted)
 }
 
 pub fn advance(d: VramDma) -> VramDma
@@ -101,13 +77,7 @@ pub fn advance(d: VramDma) -> VramDma
     let cursor = cursor_after(d.cursor);
     let block = block_after(d.block);
     let arb = arb_after(d.arb, last, cursor.remaining == 0);
-    VramDma {
-        cursor: cursor,
-        block: block,
-        arb: arb,
-        oam: OamContention {
-            was_transferring: d.oam.was_transferring,
-            contended: d.oam.contended,
-        },
-    }
+    let moved = rebuild::with_dma_cursor(d, cursor);
+    let taken = rebuild::with_dma_block(moved, block);
+    rebuild::with_dma_arb(taken, arb)
 }

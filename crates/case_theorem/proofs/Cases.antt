@@ -41,7 +41,7 @@ use Rattle.answers.specs.declared.ByteAnswer.the-variants as byte
 use Rattle.ledger.specs.Ledger.{empty, followed, afterPair, afterPairs, afterCall}
 use Rattle.ledger.specs.Calls.{step, ledgerInput}
 use Rattle.ledger.proofs.Bools.{and-left, and-right}
-use Rattle.case_theorem.specs.Cases.{Progress, withCompat, start, afterOne, afterCalls, vramRun, run, ff55-is, to, falls, heldBeside, lengths}
+use Rattle.case_theorem.specs.Cases.{Progress, inCompat, start, afterOne, afterCalls, vramRun, run, ff55-is, to, falls, heldBeside, lengths}
 use Rattle.case_theorem.specs.Cases.{k1, K1, two-falls, K2, K3, K4, K5, k6, K6, K7, k8, Lent, first-lands, second-lands, K8, K10, Cases}
 
 -- lists of addresses are compared number by number
@@ -207,7 +207,7 @@ case8 =
 
 case10 : K10
 unfolding opens-runs opens-writes
-case10 = record { reads = ff55-by 0xFF (afterCalls withCompat (start withCompat) (to 0xFF55 0x00 tt ∷ [])) refl }
+case10 = record { reads = ff55-by 0xFF (afterCalls inCompat (start inCompat) (to 0xFF55 0x00 tt ∷ [])) refl }
 
 pub cases : Cases
 cases =

@@ -30,8 +30,8 @@ pub record Progress : Type 0 where
   pub pairs : List BytePair
 
 -- power-on with and without compat
-abbrev pub withCompat : Configuration
-withCompat = record { compat = true }
+abbrev pub inCompat : Configuration
+inCompat = record { compat = true }
 
 abbrev pub withoutCompat : Configuration
 withoutCompat = record { compat = false }
@@ -263,7 +263,7 @@ pub record K8 : Type 0 where
 
 -- "compat: FF55=00 leaves FF"
 pub record K10 : Type 0 where
-  pub reads : ff55-is 0xFF (afterCalls withCompat (start withCompat) (to 0xFF55 0x00 tt ∷ []))
+  pub reads : ff55-is 0xFF (afterCalls inCompat (start inCompat) (to 0xFF55 0x00 tt ∷ []))
 
 pub record Cases : Type 0 where
   pub case1 : (mode : ℕ) → mode < 4 → K1 mode

@@ -3,7 +3,6 @@
 ghost use mathlib.Core.Path.{_≡_};
 ghost use Rattle.cut.specs.Cut.{readyBlock, outcomeOf, ungranted, cutOf, discardedOf, gradedOf, upwardOf, engineAfter};
 use arithmetic::step::less_one;
-use console::vram_dma::TransferCursor;
 use console::vram_dma::TransferMode;
 use console::vram_dma::VramDma;
 
@@ -50,14 +49,8 @@ fn cut(mut d: VramDma) -> VramDma
     ensures { λ r. ⌜ r ≡ cutOf d ⌝ }
 {
     let c = d.cursor;
-    let cursor = TransferCursor {
-        source: c.source,
-        dest: c.dest,
-        mode: TransferMode::Idle,
-        remaining: c.remaining,
-        quota: c.quota,
-        escape_byte: true,
-    };
+    let idle = rebuild::with_cursor_mode(c, TransferMode::Idle);
+    let cursor = rebuild::with_cursor_escape_byte(idle, true);
     d.cursor = cursor;
     d.block.remaining = 1;
     d

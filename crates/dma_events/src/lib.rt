@@ -10,16 +10,9 @@ fn latched_block(b: HblankBlock) -> HblankBlock
 {
     let setup = b.setup_cells.clear();
     let ready = b.ready_in.arm(2);
-    HblankBlock {
-        remaining: 16,
-        start_edge: b.start_edge,
-        taken: b.taken,
-        setup_cells: setup,
-        ready_in: ready,
-        seize_falls: b.seize_falls,
-        from_arm: b.from_arm,
-        arm_ready_probation: b.arm_ready_probation,
-    }
+    let unset = rebuild::with_block_setup_cells(b, setup);
+    let waiting = rebuild::with_block_ready_in(unset, ready);
+    rebuild::with_block_remaining(waiting, 16)
 }
 
 // With the LCD off no HBlank will come, so one block is served at once.

@@ -37,11 +37,11 @@ atStep w i double d = cond (w .arms i double d) (armed (w .ticks)) (cond (w .cle
 
 -- ---- the four windows
 -- "A wake arms the blind of 3": halted at the previous fall and not now, in step 4, in front of the gate
-abbrev pub wake : FallInput → Bool → VramDma → Bool
-wake i double d = d .arb .«prev_cpu_halted» && not (i .halted)
+abbrev pub wakes : FallInput → Bool → VramDma → Bool
+wakes i double d = d .arb .«prev_cpu_halted» && not (i .halted)
 
 abbrev pub blindOf3 : Window
-blindOf3 = record { countdown = λ d. d .arb .«halt_wake_blind»; ticks = 3; arms = wake; clears = noFall }
+blindOf3 = record { countdown = λ d. d .arb .«halt_wake_blind»; ticks = 3; arms = wakes; clears = noFall }
 
 -- "Every upward switch .. arms the blind of 6": no fall does
 abbrev pub blindOf6 : Window

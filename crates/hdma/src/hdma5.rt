@@ -33,14 +33,8 @@ fn clear_grant_marks(mut a: HaltArbiter) -> HaltArbiter
 fn pace(c: TransferCursor, mode: TransferMode, length: u16) -> TransferCursor
     ensures { λ r. ⌜ r ≡ paced mode length c ⌝ }
 {
-    TransferCursor {
-        source: c.source,
-        dest: c.dest,
-        mode: mode,
-        remaining: length,
-        quota: c.quota,
-        escape_byte: c.escape_byte,
-    }
+    let paced = rebuild::with_cursor_mode(c, mode);
+    rebuild::with_cursor_remaining(paced, length)
 }
 
 // Bit 7 set: a block with each HBlank. With the LCD off none will come, and one block is latched now.

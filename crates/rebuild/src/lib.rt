@@ -1,7 +1,10 @@
 // A part made anew field by field, as it is or with one field anew: the compiler keeps such a part in registers where it
 // would copy it whole. Written by tools/setters from the structs: what some crate uses.
 ghost use mathlib.Core.Path.{_≡_};
+ghost use Rattle.console.specs.Set.{withCursorMode};
+ghost use Rattle.console.specs.Set.{withCursorRemaining};
 ghost use Rattle.console.specs.Set.{withCursorQuota};
+ghost use Rattle.console.specs.Set.{withCursorEscapeByte};
 ghost use Rattle.console.specs.Set.{withBlockRemaining};
 ghost use Rattle.console.specs.Set.{withBlockStartEdge};
 ghost use Rattle.console.specs.Set.{withBlockTaken};
@@ -44,6 +47,33 @@ use console::vram_dma::TransferMode;
 use console::vram_dma::VramDma;
 use countdown::Countdown;
 
+pub fn with_cursor_mode(s: TransferCursor, x: TransferMode) -> TransferCursor
+    ensures { λ r. ⌜ r ≡ withCursorMode x s ⌝ }
+{
+    TransferCursor {
+        source: s.source,
+        dest: s.dest,
+        mode: x,
+        remaining: s.remaining,
+        quota: s.quota,
+        escape_byte: s.escape_byte,
+    }
+}
+
+pub fn with_cursor_remaining(s: TransferCursor, x: u16) -> TransferCursor
+    ensures { λ r. ⌜ r ≡ withCursorRemaining x s ⌝ }
+{
+    let mode = s.mode;
+    TransferCursor {
+        source: s.source,
+        dest: s.dest,
+        mode: mode,
+        remaining: x,
+        quota: s.quota,
+        escape_byte: s.escape_byte,
+    }
+}
+
 pub fn with_cursor_quota(s: TransferCursor, x: u8) -> TransferCursor
     ensures { λ r. ⌜ r ≡ withCursorQuota x s ⌝ }
 {
@@ -55,6 +85,20 @@ pub fn with_cursor_quota(s: TransferCursor, x: u8) -> TransferCursor
         remaining: s.remaining,
         quota: x,
         escape_byte: s.escape_byte,
+    }
+}
+
+pub fn with_cursor_escape_byte(s: TransferCursor, x: bool) -> TransferCursor
+    ensures { λ r. ⌜ r ≡ withCursorEscapeByte x s ⌝ }
+{
+    let mode = s.mode;
+    TransferCursor {
+        source: s.source,
+        dest: s.dest,
+        mode: mode,
+        remaining: s.remaining,
+        quota: s.quota,
+        escape_byte: x,
     }
 }
 

@@ -5,7 +5,17 @@ use Rattle.dma_events.proofs.latched_block.Tie as tie
 
 returns : tie.Need-returns
 unfolding latchedBlock
-returns c = simp (c .arm .ensures, c .before .clear .ensures)
+returns c =
+    let waiting = c .before in
+    let unset = waiting .before in
+    let ready = unset .before in
+    simp (
+      c .with-block-remaining .ensures,
+      waiting .with-block-ready-in .ensures,
+      unset .with-block-setup-cells .ensures,
+      ready .arm .ensures,
+      ready .before .clear .ensures,
+    )
 
 pub latched-block-spec : {M : Type 1} → statement M
-latched-block-spec = tie.close (tie.spec (λ _ _. tt) (λ _ _. tt) returns)
+latched-block-spec = tie.close (tie.spec (λ _ _. tt) (λ _ _. tt) (λ _ _. tt) (λ _ _. tt) (λ _ _. tt) returns)
