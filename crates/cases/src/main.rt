@@ -1,8 +1,8 @@
 // Runs document 01's cases and declined inputs through the public calls, a line for each observation. What the lines must
 // say stands in the file stdout, written from the paper's numbers and rules.
-mod blackout;
+mod blackouts;
 mod calls;
-mod cut;
+mod cuts;
 mod declined;
 mod deposit;
 mod general;
@@ -21,9 +21,9 @@ fn moving() {
     hblank::k2();
     pairs::k4();
     pairs::k5();
-    cut::k6();
-    blackout::k7(4);
-    blackout::k7(3);
+    cuts::k6();
+    blackouts::k7(4);
+    blackouts::k7(3);
     deposit::k8();
     deposit::last_place();
 }

@@ -12,7 +12,10 @@ use Rattle.blackout.specs.Blackout.{drainedOf, wokenOf}
 use Rattle.cut.specs.Cut.{engineAfter}
 use Rattle.speed_switch.specs.Switch.{switchedOf}
 use Rattle.cut.proofs.Sound.{switch-sound}
+use Rattle.transfer.specs.Latch.{lcdDisabledOf, retiredOf}
+use Rattle.transfer.specs.Pair.{nextByteOf, drainOf}
 use Rattle.transfer.proofs.Sound.{next-sound, drain-sound, lcd-sound, retired-sound}
+use Rattle.bus.specs.Commit.{busTaken}
 use Rattle.bus.proofs.Sound.{bus-sound}
 use Rattle.engine.specs.Calls.{fallen, fallenState}
 use Rattle.ledger.specs.Calls
@@ -29,13 +32,13 @@ module _ (s : Cgb) (r : Reached s) where
   given-keeps (Calls.write a w n byte) = map.write-keeps s w a r
   given-keeps (Calls.read a n) = r
   given-keeps (Calls.fall i) = with-sound (fallen s i .dma) (fall-sound i (s .«double_speed») (s .«vram_dma»))
-  given-keeps Calls.next-pair = with-sound _ (next-sound (s .«vram_dma»))
-  given-keeps Calls.escape-drain = with-sound _ (drain-sound (s .«vram_dma»))
-  given-keeps (Calls.bus-call i n) = with-sound _ (bus-sound i (s .«vram_dma»))
+  given-keeps Calls.next-pair = with-sound (nextByteOf (s .«vram_dma») .dma) (next-sound (s .«vram_dma»))
+  given-keeps Calls.escape-drain = with-sound (drainOf (s .«vram_dma») .dma) (drain-sound (s .«vram_dma»))
+  given-keeps (Calls.bus-call i n) = with-sound (busTaken i (s .«vram_dma») .dma) (bus-sound i (s .«vram_dma»))
   given-keeps (Calls.switch-speed i) =
       let up = not (s .«double_speed») in with-sound (engineAfter up (s .«vram_dma»)) (switch-sound up (s .«vram_dma»))
-  given-keeps Calls.lcd-off = with-sound _ (lcd-sound (s .«vram_dma»))
-  given-keeps Calls.retired = with-sound _ (retired-sound (s .«vram_dma»))
+  given-keeps Calls.lcd-off = with-sound (lcdDisabledOf (s .«vram_dma»)) (lcd-sound (s .«vram_dma»))
+  given-keeps Calls.retired = with-sound (retiredOf (s .«vram_dma»)) (retired-sound (s .«vram_dma»))
   given-keeps (Calls.blackout elapsed) = r
   given-keeps (Calls.wake boundary) = r
   given-keeps (Calls.arbitrate i) = r
