@@ -10,10 +10,10 @@ use Rattle.codec.specs.declared.Decoded.{Decoded}
 use Rattle.console.specs.declared.Cgb.{Cgb}
 use Rattle.perform.specs.Record.{recordPerformed, recordWram, recordVram, recordOam, PerformsRecord}
 use Rattle.record.specs.Answer.{answerBytes, refusedBytes}
+use Rattle.record.proofs.DeclinedAnswer.{answer-alone}
 use Rattle.record.specs.Record.{callOf}
 use Rattle.record.specs.declared.Coded.{Coded}
 use Rattle.record.specs.declared.Coded.the-variants.{Call, Unknown}
-use Rattle.told.specs.Declined.{Declined}
 use Rattle.told.specs.declared.Performed.{Performed}
 use Rattle.c_api.specs.Declined.{DeclinedBytes}
 use Rattle.c_api.specs.Entry.{Left, calledOf, enteredOf, Entered}
@@ -25,12 +25,6 @@ unreadable false h = refl
 readable : (b : Bool) → not b ≡ false → b ≡ true
 readable true h = refl
 readable false h = sym h
-
--- a number alone, no pair and no byte are written as the number and zeros
-answer-alone :
-    {s : Cgb} {wram vram oam w v o : List ℕ} (p : Performed) → Declined s wram vram oam p w v o →
-    answerBytes p ≡ refusedBytes (p .told .refusal)
-answer-alone p d = rw (d .no-pair, d .no-byte, d .number-alone)
 
 -- what a performed record leaves in the caller's bytes
 leftOf : Cgb → Coded → List ℕ → List ℕ → List ℕ → List ℕ → Left
