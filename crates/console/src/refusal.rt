@@ -1,8 +1,7 @@
 // Document 01's numbers for declined calls, and the test behind 7.
 ghost use mathlib.Core.Path.{_≡_};
-ghost use Rattle.console.specs.Reached.{anyOf, engineTests, bankTests, unreached};
+ghost use Rattle.console.specs.Reached.{unreached};
 use crate::Cgb;
-use crate::vram_dma::VramDma;
 
 // A mode above 3.
 pub const MODE: u8 = 1;
@@ -27,28 +26,19 @@ pub const DEFERRED: u8 = 13;
 // A commit not already counted would raise granted from 255.
 pub const GRANTED: u8 = 14;
 
-// Refusal 7's tests of the engine.
-fn engine_unreached(d: VramDma) -> bool
-    ensures { λ r. ⌜ r ≡ anyOf (engineTests d) ⌝ }
-{
-    let c = d.cursor;
-    let mode = c.mode;
-    let idle = mode.is_idle();
-    (c.quota > 2) | (d.block.remaining > 16) | (c.remaining > 2048) | ((c.remaining == 0) & !idle)
-}
-
-// Refusal 7's tests of the bank registers.
-fn bank_unreached(svbk: u8, selected: u8) -> bool
-    ensures { λ r. ⌜ r ≡ anyOf (bankTests svbk selected) ⌝ }
-{
-    (svbk > 7) | (selected > 1)
-}
-
 impl Cgb {
-    // Refusal 7: a test of some part holds.
+    // Refusal 7: one of its six tests holds. In the paper's order, which is also the fastest.
     pub fn unreached(self) -> bool
         ensures { λ r. ⌜ r ≡ unreached self ⌝ }
     {
-        engine_unreached(self.vram_dma) | bank_unreached(self.svbk, self.vram.selected)
+        let c = self.vram_dma.cursor;
+        let mode = c.mode;
+        let idle = mode.is_idle();
+        (c.quota > 2)
+            | (self.vram_dma.block.remaining > 16)
+            | (c.remaining > 2048)
+            | (self.svbk > 7)
+            | (self.vram.selected > 1)
+            | ((c.remaining == 0) & !idle)
     }
 }

@@ -1,12 +1,34 @@
--- `Cgb::unreached` meets its contract: it asks each part in turn. Assumes nothing.
-use mathlib.Core.Bool.{or-assoc, or-false}
+-- `Cgb::unreached` meets its contract: the code's tests in the paper's order are those of the parts. Assumes nothing.
+use mathlib.Core.Path.{_≡_, refl}
+use mathlib.Core.Bool.{Bool, true, false, not, _&&_, _||_}
+use lib.Dec.{ltb, eqb}
+use Rattle.console.specs.Modes.{isIdle}
 use Rattle.console.specs.Reached.{unreached}
 use Rattle.console.proofs.Cgb.unreached.Statement.{statement}
 use Rattle.console.proofs.Cgb.unreached.Tie as tie
 
+-- a, b, c and f are the engine's tests, d and e the banks'
+by-part :
+    (a b c d e f : Bool) → (((((a || b) || c) || d) || e) || f) ≡ ((a || (b || (c || (f || false)))) || ((d || (e || false)) || false))
+by-part true b c d e f = refl
+by-part false true c d e f = refl
+by-part false false true d e f = refl
+by-part false false false true e true = refl
+by-part false false false true e false = refl
+by-part false false false false true true = refl
+by-part false false false false true false = refl
+by-part false false false false false true = refl
+by-part false false false false false false = refl
+
 returns : tie.Need-returns
 unfolding unreached
-returns c = simp (or-assoc, or-false, c .bank-unreached .ensures, c .before .engine-unreached .ensures)
+returns c =
+    let idle = c .before .before .before .before .before .before in
+    let s = idle .before .before .args .self in
+    let d = s .«vram_dma» in
+    rw (idle .is-idle .ensures)
+    (by-part (ltb 2 (d .cursor .quota)) (ltb 16 (d .block .remaining)) (ltb 2048 (d .cursor .remaining)) (ltb 7 (s .svbk))
+    (ltb 1 (s .vram .selected)) (eqb (d .cursor .remaining) 0 && not (isIdle (d .cursor .mode))))
 
 pub unreached-spec : {M : Type 1} → statement M
-unreached-spec = tie.close (tie.spec (λ _ _. tt) (λ _ _. tt) returns)
+unreached-spec = tie.close (tie.spec (λ _ _. tt) returns)
