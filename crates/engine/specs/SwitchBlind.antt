@@ -1,5 +1,5 @@
 -- The blind of 6 from the switch on that arms it (document 01, section 4: "Every upward switch drops the pend and arms the
--- blind of 6"): how long it lasts, and which entries it passes over, is `Windows` of `fall_edge`.
+-- blind of 6"): how long it lasts, and which entries it passes over, is `Windows` of `fall_stages`.
 use mathlib.Core.Path.{_≡_}
 use mathlib.Core.Bool.{false}
 use Rattle.console.specs.declared.Cgb.{Cgb}

@@ -1,5 +1,5 @@
 -- What is shown of reads and writes as calls (document 01, section 1): when they are declined and with which number, and that
--- an accepted one gives and leaves what the map does (`MapSteps`, `RegisterSteps` and `CompatSteps` tell it by address).
+-- an accepted one gives and leaves what the map does (`MapReads` and `MapWrites` tell it by address).
 use Prim.Native.Nat.{ℕ}
 use mathlib.Core.Path.{_≡_}
 use mathlib.Core.Bool.{true, false}

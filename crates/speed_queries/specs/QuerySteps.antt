@@ -1,5 +1,5 @@
 -- What is shown of the queries of the speed (document 01, section 4), of each state that passes 7: yes exactly when the conditions
--- hold (`SpeedSteps` has the divider's), and the steps of each speed.
+-- hold (`BlackoutSteps` has the divider's), and the steps of each speed.
 use Prim.Native.Nat.{_<_}
 use mathlib.Core.Path.{_≡_}
 use mathlib.Core.Bool.{true, false}
