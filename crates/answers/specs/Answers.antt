@@ -2,7 +2,7 @@
 -- that states this paper's number and values for each of its cases").
 use Prim.Native.Nat.{ℕ}
 use mathlib.Core.Path.{_≡_}
-use mathlib.Core.Bool.{Bool, cond}
+use mathlib.Core.Bool.{Bool, false, cond}
 use mathlib.Core.List.{List, [], _∷_}
 use lib.Dec.{eqb}
 use Rattle.console.specs.Reached.{unreached}
@@ -75,6 +75,11 @@ flagSays (flag.Refused n) = declined n
 abbrev pub claimSays : ClaimAnswer → Said
 claimSays (claim.Claim committed standing) = accepted (bitOf committed ∷ bitOf standing ∷ [])
 claimSays (claim.Refused n) = declined n
+
+-- whether an answer tells of a commit
+abbrev pub tellsCommit : ClaimAnswer → Bool
+tellsCommit (claim.Claim committed standing) = committed
+tellsCommit (claim.Refused n) = false
 
 -- source, destination, left and escape flag
 abbrev pub tallySays : TallyAnswer → Said

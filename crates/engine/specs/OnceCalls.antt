@@ -9,8 +9,8 @@ use Rattle.bus.specs.declared.arbitration.ArbitrationInput.{ArbitrationInput}
 use Rattle.bus.specs.declared.commit.BusInput.{BusInput}
 use Rattle.fall_stages.specs.Once.{Running, Between}
 use Rattle.fall_stages.specs.declared.FallInput.{FallInput}
+use Rattle.answers.specs.Answers.{tellsCommit}
 use Rattle.fall_call.specs.Fall.{fallCallOf}
-use Rattle.fall_call.specs.FallCallSteps.{tellsCommit}
 use Rattle.bus_calls.specs.Bus.{arbitrationCallOf}
 use Rattle.bus_calls.specs.BusCall.{Lengths, busState}
 use Rattle.transfer_calls.specs.Lcd.{lcdCallOf, retiredCallOf}

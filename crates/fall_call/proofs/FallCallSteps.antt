@@ -8,8 +8,9 @@ use Rattle.console.specs.declared.Cgb.{Cgb}
 use Rattle.console.specs.declared.VramDmaClaim.{VramDmaClaim}
 use Rattle.fall_stages.specs.declared.FallInput.{FallInput}
 use Rattle.fall_stages.proofs.Steps.{fall-steps}
+use Rattle.answers.specs.Answers.{tellsCommit}
 use Rattle.fall_call.specs.Fall.{fallen, fallRefusal, fallenState, fallCallOf}
-use Rattle.fall_call.specs.FallCallSteps.{FallRefusals, FallCallSteps, tellsCommit}
+use Rattle.fall_call.specs.FallCallSteps.{FallRefusals, FallCallSteps}
 
 pub fall-refusals : (s : Cgb) (i : FallInput) → FallRefusals s i
 unfolding fallRefusal

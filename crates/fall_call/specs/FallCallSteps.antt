@@ -3,11 +3,11 @@
 -- tells, declined or not.
 use Prim.Native.Nat.{_<_, _≤_}
 use mathlib.Core.Path.{_≡_}
-use mathlib.Core.Bool.{Bool, true, false}
+use mathlib.Core.Bool.{true, false}
 use Rattle.console.specs.Reached.{unreached}
 use Rattle.console.specs.declared.Cgb.{Cgb}
 use Rattle.fall_stages.specs.declared.FallInput.{FallInput}
-use Rattle.answers.specs.declared.ClaimAnswer.{ClaimAnswer}
+use Rattle.answers.specs.Answers.{tellsCommit}
 use Rattle.answers.specs.declared.ClaimAnswer.the-variants.{Claim, Refused}
 use Rattle.answers.specs.declared.Fell.{Fell}
 use Rattle.fall_call.specs.Fall.{fallen, fallRefusal, fallenState, fallCallOf}
@@ -18,11 +18,6 @@ pub record FallRefusals (s : Cgb) (i : FallInput) : Type 0 where
   pub then-1 : unreached s ≡ false → 3 < i .mode → fallRefusal s i ≡ 1
   pub then-14 : unreached s ≡ false → i .mode ≤ 3 → fallen s i .refused ≡ true → fallRefusal s i ≡ 14
   pub accepted : unreached s ≡ false → i .mode ≤ 3 → fallen s i .refused ≡ false → fallRefusal s i ≡ 0
-
--- whether an answer tells of a commit
-abbrev pub tellsCommit : ClaimAnswer → Bool
-tellsCommit (Claim committed standing) = committed
-tellsCommit (Refused number) = false
 
 pub record FallCallSteps (s : Cgb) (i : FallInput) : Type 0 where
   pub refusals : FallRefusals s i

@@ -36,7 +36,7 @@ use Rattle.engine.specs.Calls.{nextPairOf, takenIn, wrongLengths, busRefusal, b
 use Rattle.engine.specs.Calls.{switchAnswerOf, defers, switchRefusal, switchCallOf, blackoutCallOf, wakeCallOf, escapeDrainOf, lcdCallOf}
 use Rattle.engine.specs.Calls.{retiredCallOf, conflictAnswerOf, conflictCallOf}
 use Rattle.answers.specs.Answers.{Said, kept, stateRefusal}
-use Rattle.answers.specs.Answers.{doneSays, flagSays, claimSays, pairSays, switchSays, arbitrationSays, conflictSays}
+use Rattle.answers.specs.Answers.{doneSays, flagSays, claimSays, tellsCommit, pairSays, switchSays, arbitrationSays, conflictSays}
 use Rattle.answers.specs.declared.ArbitrationAnswer.{ArbitrationAnswer}
 use Rattle.answers.specs.declared.ArbitrationAnswer.the-variants as arbitration
 use Rattle.answers.specs.declared.ByteAnswer.the-variants as byte
@@ -56,7 +56,7 @@ use Rattle.ask.specs.Ask.{askedOf}
 use Rattle.ask.proofs.Asked.{asked-said}
 use Rattle.ledger.specs.LedgerInput.{accepts}
 use Rattle.ledger.specs.Calls
-use Rattle.ledger.specs.Calls.{Call, Query, Outcome, handing, plain, pairsIn, isCommit, isCut, step}
+use Rattle.ledger.specs.Calls.{Call, Query, Outcome, handing, plain, pairsIn, isCut, step}
 
 -- what an accepted call gives
 pub record Given : Type 0 where
@@ -167,7 +167,7 @@ abbrev handedReads : PairAnswer → Cgb → Outcome
 handedReads a s = record { reply = handing (pairSays a .number) (pairsIn a); state = s }
 
 abbrev fellReads : ClaimAnswer → Cgb → Outcome
-fellReads a s = record { reply = record { number = claimSays a .number; pairs = []; cut = false; committed = isCommit a }; state = s }
+fellReads a s = record { reply = record { number = claimSays a .number; pairs = []; cut = false; committed = tellsCommit a }; state = s }
 
 abbrev switchedReads : SwitchAnswer → Cgb → Outcome
 switchedReads a s = record { reply = record { number = switchSays a .number; pairs = []; cut = isCut a; committed = false }; state = s }

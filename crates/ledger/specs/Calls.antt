@@ -16,13 +16,11 @@ use Rattle.transfer.specs.declared.pair.BytePair.{BytePair}
 use Rattle.engine.specs.Calls.{readRefusal, writeOf, fallCallOf, nextPairOf, Lengths, busRefusal, busPairs, busState, arbitrationCallOf}
 use Rattle.engine.specs.Calls.{switchCallOf, blackoutCallOf, wakeCallOf, escapeDrainOf, lcdCallOf, retiredCallOf, conflictCallOf}
 use Rattle.answers.specs.Answers.{Said, doneStateSays, flaggedSays, handedSays, fellSays, switchedSays, arbitratedSays, busOutcomeSays}
-use Rattle.answers.specs.Answers.{conflictSays}
+use Rattle.answers.specs.Answers.{conflictSays, tellsCommit}
 use Rattle.answers.specs.declared.Arbitrated.{Arbitrated}
 use Rattle.answers.specs.declared.BusAnswer.{BusAnswer}
 use Rattle.answers.specs.declared.BusAnswer.the-variants as bus
 use Rattle.answers.specs.declared.BusOutcome.{BusOutcome}
-use Rattle.answers.specs.declared.ClaimAnswer.{ClaimAnswer}
-use Rattle.answers.specs.declared.ClaimAnswer.the-variants as claimed
 use Rattle.answers.specs.declared.Done.{Done}
 use Rattle.answers.specs.declared.Fell.{Fell}
 use Rattle.answers.specs.declared.Flagged.{Flagged}
@@ -74,12 +72,8 @@ abbrev pub ofArbitrated : Arbitrated → Outcome
 ofArbitrated r = plain (arbitratedSays r) (r .state)
 
 -- or whether it committed
-abbrev pub isCommit : ClaimAnswer → Bool
-isCommit (claimed.Claim committed standing) = committed
-isCommit (claimed.Refused n) = false
-
 abbrev pub ofFell : Fell → Outcome
-ofFell r = record { reply = record { number = fellSays r .number; pairs = []; cut = false; committed = isCommit (r .answer) }; state = r .state }
+ofFell r = record { reply = record { number = fellSays r .number; pairs = []; cut = false; committed = tellsCommit (r .answer) }; state = r .state }
 
 -- or its pair
 abbrev pub pairsIn : PairAnswer → List BytePair
