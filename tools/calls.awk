@@ -16,6 +16,7 @@ $1 == "call" || $1 == "query" {
     asks[k] = $1 == "query"
     next
 }
+$1 == "refusal" { refusals++; number[refusals] = $2; refused[refusals] = $3; because[refusals] = substr($0, index($0, $3) + length($3) + 1); next }
 $1 == "slices" { slices[k] = $2; next }
 $1 == "answer" { answer[k] = $2; value[k] = $3; next }
 { text[k, $1] = substr($0, index($0, " ") + 1) }
@@ -469,8 +470,14 @@ function wrapped(first, lead, words,    n, list, i, line) {
     }
     print line > to
 }
+function header_kinds(    k) {
+    out("../blocks/kinds")
+    for (k = 1; k <= calls; k++) print "    CGB_KIND_" constant(k) " = " kind[k] "," > to
+    print "    CGB_KIND_LAST = " kind[calls] > to
+    close(to)
+}
 function header_table(    k, lead, first) {
-    out("header")
+    out("../blocks/table")
     lead = sprintf(" *%28s", "")
     for (k = 1; k <= calls; k++) {
         first = sprintf(" *  %2d %-22s ", kind[k], name[k])
@@ -479,11 +486,41 @@ function header_table(    k, lead, first) {
     }
     close(to)
 }
+function header_refusals(    i) {
+    out("../blocks/refusals")
+    for (i = 1; i <= refusals; i++) printf "    %-22s = %d%s /* %s */\n", "CGB_REFUSED_" refused[i], number[i], i == refusals ? " " : ",", because[i] > to
+    close(to)
+    out("../blocks/texts")
+    for (i = 1; i <= refusals; i++) print "    case CGB_REFUSED_" refused[i] ": return \"" because[i] "\";" > to
+    close(to)
+}
+# the function of each call that has no inputs
+function header_calls(    k) {
+    out("../blocks/calls")
+    for (k = 1; k <= calls; k++) {
+        if (text[k, "layout"] != "") continue
+        print "/* " name[k] " -> " text[k, "values"] " */" > to
+        print "static inline uint8_t cgb_" tolower(constant(k)) "(uint8_t state[CGB_STATE_BYTES], uint8_t answer[CGB_ANSWER_BYTES])" > to
+        print "{" > to
+        print "    return cgb_alone(state, answer, CGB_KIND_" constant(k) ", 0, 0, 0, 0);" > to
+        print "}" > to
+    }
+    close(to)
+}
+function library_refusals(    i) {
+    out("../blocks/refused")
+    print "| number | in C | what `cgb_refusal_text` says |" > to
+    print "|---|---|---|" > to
+    for (i = 1; i <= refusals; i++) print row(number[i]) row("`CGB_REFUSED_" refused[i] "`") row(because[i]) "|" > to
+    close(to)
+}
+
 function library_table(    k) {
-    out("library")
-    print "| kind | C record's inputs | method in Rust | answer | refusals after 7 |" > to
-    print "|---|---|---|---|---|" > to
-    for (k = 1; k <= calls; k++) print row(kind[k] " " name[k]) row(text[k, "inputs"]) row("`" fn[k] "`") row(text[k, "gives"]) row(text[k, "refusals"]) "|" > to
+    out("../blocks/rows")
+    print "| kind | in C | in Rust | inputs | answer | refusals after 7 |" > to
+    print "|---|---|---|---|---|---|" > to
+    for (k = 1; k <= calls; k++)
+        print row(kind[k] " " name[k]) row("`cgb_" tolower(constant(k)) "`") row("`" fn[k] "`") row(text[k, "inputs"]) row(text[k, "gives"]) row(text[k, "refusals"]) "|" > to
     close(to)
 }
 function row(cell) { return "|" (cell == "" ? " " : " " cell " ") }
@@ -499,8 +536,12 @@ END {
     query_type()
     rust_kinds()
     rust_queries()
+    header_kinds()
     header_table()
+    header_refusals()
+    header_calls()
     library_table()
+    library_refusals()
     by_hand()
     functions_spec()
     answered_spec()
