@@ -1,7 +1,7 @@
 /* A General transfer of 16 bytes, from the cartridge to VRAM, printed as it moves.
  *
- *     rt staticlib c_api
- *     cc -Iinclude examples/transfer.c target/staticlib/libc_api.a -o transfer && ./transfer
+ *     sh tools/library
+ *     cc -Iinclude examples/transfer.c target/lib/libcgb_vram_dma.a -o target/transfer && target/transfer
  */
 #include "cgb_vram_dma.h"
 
@@ -14,41 +14,37 @@ static uint8_t cartridge[CGB_CARTRIDGE_BYTES];
 static uint8_t wram[CGB_WRAM_BYTES];
 static uint8_t vram[CGB_VRAM_BYTES];
 static uint8_t oam[CGB_OAM_BYTES];
+static const struct cgb_memory memory = {cartridge, sizeof cartridge, wram,       sizeof wram,
+                                         vram,      sizeof vram,      oam, sizeof oam};
 
-static unsigned two(const uint8_t *at) { return at[0] + 256u * at[1]; }
-
-/* A refusal ends the program: this script has none. */
-static void perform(const uint8_t call[CGB_CALL_BYTES])
+/* A refusal ends the program: this transfer has none. */
+static void accepted(uint8_t refusal)
 {
-    uint8_t refusal = cgb_perform(state, call, answer, cartridge, sizeof cartridge, wram, sizeof wram, vram,
-                                  sizeof vram, oam, sizeof oam);
-    if (refusal != 0) {
-        fprintf(stderr, "kind %u was refused with %u\n", call[0], refusal);
+    if (refusal != CGB_ACCEPTED) {
+        fprintf(stderr, "refused with %u: %s\n", refusal, cgb_refusal_text(refusal));
         exit(1);
     }
 }
 
+static unsigned status(void)
+{
+    accepted(cgb_status(state, answer));
+    return cgb_value(answer, CGB_STATUS_TRANSFER);
+}
+
 int main(void)
 {
-    const uint8_t start[CGB_CALL_BYTES] = {1, 0, 0x55, 0xFF, 0x00, 1}; /* FF55 = 00, LCD on */
-    const uint8_t fall[CGB_CALL_BYTES] = {2, 0, 0, 0, 3};              /* mode 3, running */
-    const uint8_t bus[CGB_CALL_BYTES] = {9, 0, 0, 0, 0, 1};            /* held */
-    const uint8_t status[CGB_CALL_BYTES] = {15};
-
-    for (unsigned i = 0; i < sizeof cartridge; i++)
+    for (size_t i = 0; i < sizeof cartridge; i++)
         cartridge[i] = (uint8_t)(i * 3 + 1);
     cgb_power_on(state, 0);
-    perform(start);
-    for (;;) {
-        perform(status);
-        if (two(answer + 2) == 0)
-            break;
-        perform(fall);
-        perform(bus);
-        for (unsigned k = 0; k < two(answer + 2); k++)
-            printf("%04X -> %04X: %02X\n", two(answer + 10 + 4 * k), two(answer + 12 + 4 * k), answer[18 + k]);
+    accepted(cgb_write(state, answer, 0xFF55, 0x00, 1, wram, sizeof wram)); /* LCD on */
+    while (status() != CGB_TRANSFER_IDLE) {
+        accepted(cgb_fall(state, answer, 3, 0, 0)); /* mode 3, running */
+        accepted(cgb_bus_call(state, answer, CGB_HOLD, 0, &memory));
+        for (size_t k = 0; k < cgb_value(answer, CGB_BUS_PAIRS); k++)
+            printf("%04X -> %04X: %02X\n", cgb_pair_source(answer, k), cgb_pair_destination(answer, k), cgb_pair_byte(answer, k));
     }
-    for (unsigned i = 0; i < 16; i++)
+    for (size_t i = 0; i < 16; i++)
         if (vram[i] != cartridge[i])
             return 1;
     puts("16 bytes moved");

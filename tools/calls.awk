@@ -494,11 +494,12 @@ function header_refusals(    i) {
     for (i = 1; i <= refusals; i++) print "    case CGB_REFUSED_" refused[i] ": return \"" because[i] "\";" > to
     close(to)
 }
+function inputs(k) { return text[k, "layout"] != "" }
 # the function of each call that has no inputs
 function header_calls(    k) {
     out("../blocks/calls")
     for (k = 1; k <= calls; k++) {
-        if (text[k, "layout"] != "") continue
+        if (inputs(k)) continue
         print "/* " name[k] " -> " text[k, "values"] " */" > to
         print "static inline uint8_t cgb_" tolower(constant(k)) "(uint8_t state[CGB_STATE_BYTES], uint8_t answer[CGB_ANSWER_BYTES])" > to
         print "{" > to
@@ -514,7 +515,6 @@ function library_refusals(    i) {
     for (i = 1; i <= refusals; i++) print row(number[i]) row("`CGB_REFUSED_" refused[i] "`") row(because[i]) "|" > to
     close(to)
 }
-
 function library_table(    k) {
     out("../blocks/rows")
     print "| kind | in C | in Rust | inputs | answer | refusals after 7 |" > to
@@ -528,7 +528,7 @@ function row(cell) { return "|" (cell == "" ? " " : " " cell " ") }
 # what is written by hand: a line for each, which tools/calls looks for
 function by_hand(    k) {
     out("by-hand")
-    for (k = 1; k <= calls; k++) print fn[k], at[k], asks[k] + 0, slices[k] + 0, constant(k), kind[k], variant[k] > to
+    for (k = 1; k <= calls; k++) print fn[k], at[k], asks[k] + 0, slices[k] + 0, constant(k), kind[k], variant[k], tolower(constant(k)), !inputs(k) > to
     close(to)
 }
 
