@@ -14,8 +14,9 @@ static uint8_t cartridge[CGB_CARTRIDGE_BYTES];
 static uint8_t wram[CGB_WRAM_BYTES];
 static uint8_t vram[CGB_VRAM_BYTES];
 static uint8_t oam[CGB_OAM_BYTES];
-static const struct cgb_memory memory = {cartridge, sizeof cartridge, wram,       sizeof wram,
-                                         vram,      sizeof vram,      oam, sizeof oam};
+static const struct cgb_memory memory = {
+    cartridge, sizeof cartridge, wram, sizeof wram, vram, sizeof vram, oam, sizeof oam,
+};
 
 /* A refusal ends the program: this transfer has none. */
 static void accepted(uint8_t refusal)

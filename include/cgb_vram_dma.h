@@ -161,8 +161,7 @@ enum {
     CGB_ANSWER_REFUSAL = 0,
     CGB_ANSWER_VALUES = 2,      /* four of two bytes */
     CGB_ANSWER_PAIRS = 10,      /* a bus call's: source and destination of two bytes each, of the first pair, then of the second */
-    CGB_ANSWER_PAIR_BYTES = 18, /* a bus call's: the byte of each pair */
-    CGB_ANSWER_ZEROS = 20
+    CGB_ANSWER_PAIR_BYTES = 18  /* a bus call's: the byte of each pair */
 };
 
 /* A refused call's number. */

@@ -191,6 +191,7 @@ static void k2_rounds(void)
     EQUAL(bus(CGB_HOLD, 0), 2);
     EQUAL(cgb_value(answer, CGB_BUS_SET_UP_CELL), 0);
     EQUAL(cgb_pair_destination(answer, 1), 0x8001);
+    EQUAL(b.state[CGB_AT_CURSOR_ESCAPE_BYTE], 0);
 }
 
 static void k2_hblank(void)
@@ -284,6 +285,8 @@ static void k7_blackouts(void)
     EQUAL(speed_switch(3, 0, 0xFEDCBA9876543210u), CGB_SWITCH_NONE);
     EQUAL(cgb_number(b.state, CGB_AT_BLACKOUT_ANCHOR, 8), 0xFEDCBA9876543210u);
     EQUAL(cgb_number(b.state, CGB_AT_SPEED_SWITCH_BLACKOUT, 4), 131077);
+    EQUAL(b.state[CGB_AT_SWITCH_RELOCK_DEBIT], 1);
+    EQUAL(b.state[CGB_AT_ARB_WAKE_PEND_BLIND], 6);
     EQUAL(said(cgb_double_speed), 1);
     EQUAL(b.state[CGB_AT_DOUBLE_SPEED], 1);
     EQUAL(said(cgb_cpu_steps_per_dot), 2);
@@ -295,7 +298,7 @@ static void k7_blackouts(void)
     speed_switch(3, 0, 0);
     EQUAL(said(cgb_double_speed), 1);
     lasts(131079);
-    /* an interrupt that is ready leaves 2 edges downward, and no divider */
+    /* an interrupt that is ready leaves 5 edges upward and 2 downward, without the divider */
     power_on(0);
     speed_switch(0, CGB_INTERRUPT_READY, 0);
     EQUAL(said(cgb_divider_active), 0);
@@ -307,6 +310,7 @@ static void k7_blackouts(void)
 /* From WRAM, so that the two bytes differ from what OAM holds. */
 static void k8_deposit(uint64_t block_edge, uint64_t oam_edge, unsigned second)
 {
+    uint8_t copy[CGB_STATE_BYTES];
     power_on(0);
     set(0xFF51, 0xC0);
     set(0xFF55, 0x80);
@@ -316,6 +320,10 @@ static void k8_deposit(uint64_t block_edge, uint64_t oam_edge, unsigned second)
     fall(0);
     EQUAL(bus(CGB_HOLD, oam_edge), 0);
     fall(0);
+    memcpy(copy, b.state, sizeof copy);
+    ACCEPTED(cgb_arbitration(copy, answer, CGB_OAM_TRANSFERS)); /* neither held nor suspended */
+    EQUAL(cgb_value(answer, 0), CGB_ARBITRATION_CLEAR);
+    EQUAL(copy[CGB_AT_OAM_CONTENDED], 0);
     ACCEPTED(cgb_arbitration(b.state, answer, CGB_HOLD | CGB_OAM_TRANSFERS));
     EQUAL(cgb_value(answer, 0), CGB_ARBITRATION_CONTENDED);
     EQUAL(b.state[CGB_AT_OAM_CONTENDED], 1);
@@ -428,8 +436,8 @@ static unsigned commits(uint8_t flags)
     return cgb_value(answer, CGB_CLAIM_COMMITTED);
 }
 
-/* Section 2: gated is stopped, or halted without latched IRQ, and a gated fall commits nothing; a claim is standing at pend age 4
- * or more with no bus owned by OAM DMA. */
+/* Section 2: gated is stopped, or halted without latched IRQ, and a gated fall commits nothing; halted, a pend older than
+ * 2 waits; a claim is standing at pend age 4 or more with no bus owned by OAM DMA. */
 static void flags_of_a_fall(void)
 {
     unsigned k;
@@ -446,6 +454,9 @@ static void flags_of_a_fall(void)
     for (k = 0; k < 4; k++)
         ACCEPTED(cgb_fall(b.state, answer, 0, CGB_STOPPED, 0));
     EQUAL(b.state[CGB_AT_ARB_PEND_AGE], 4);
+    EQUAL(b.state[CGB_AT_ARB_HALTED_FALLS], 0);
+    EQUAL(commits(CGB_HALTED | CGB_IRQ_LATCHED), 0);
+    EQUAL(commits(CGB_IRQ_LATCHED), 1);
     EQUAL(commits(CGB_OAM_OWNS_BUS), 1);
     EQUAL(cgb_value(answer, CGB_CLAIM_STANDING), 0);
     EQUAL(commits(0), 1);
@@ -454,9 +465,10 @@ static void flags_of_a_fall(void)
     ACCEPTED(cgb_claim(b.state, answer));
     EQUAL(cgb_value(answer, CGB_CLAIM_COMMITTED), 1);
     EQUAL(cgb_value(answer, CGB_CLAIM_STANDING), 1);
+    EQUAL(b.state[CGB_AT_VRAM_DMA_CLAIM_STANDING], 1);
 }
 
-/* The original's `vram_dma_write_conflict_source`: at double speed, from the second seized fall on, at the address of the next byte. */
+/* The original's `vram_dma_write_conflict_source`: at double speed, from the second seized fall on, where the next byte lands. */
 static void write_conflict(void)
 {
     power_on(0);
@@ -503,6 +515,8 @@ static void wake_park_and_bank(void)
     EQUAL(b.state[CGB_AT_SPEED_SWITCH_WAKE_LATENCY_VALUE], 1);
     ACCEPTED(cgb_wake_intake(b.state, answer, CGB_BOUNDARY));
     EQUAL(cgb_value(answer, 0), 1);
+    EQUAL(b.state[CGB_AT_SPEED_SWITCH_WAKE_LATENCY_TAG], 1);
+    EQUAL(b.state[CGB_AT_SPEED_SWITCH_WAKE_LATENCY_VALUE], 0);
     b.state[CGB_AT_ARB_PARK_WAITS_FOR_FETCH] = 1;
     EQUAL(said(cgb_park_waits_for_fetch), 1);
     ACCEPTED(cgb_instruction_retired(b.state, answer));
@@ -517,6 +531,49 @@ static void wake_park_and_bank(void)
     set(0xD123, 0x77);
     EQUAL(byte_at(0xD123), 0x77);
     EQUAL(b.wram[5 * 4096 + 0x123], 0x77);
+}
+
+/* What sections 1 and 2 say of registers and marks, where the header says that they are. */
+static void fields(void)
+{
+    power_on(0);
+    set(0xFF51, 0x12);
+    set(0xFF52, 0x34);
+    set(0xFF53, 0x9A);
+    set(0xFF54, 0xBC);
+    set(0xFF55, 0x83);
+    set(0xFF4D, 0x01);
+    set(0xFF4F, 0x01);
+    set(0xFF70, 0x03);
+    set(0xFF72, 0x72);
+    set(0xFF73, 0x73);
+    set(0xFF74, 0x74);
+    set(0xFF75, 0x70);
+    set(0xFEA0, 0xA0);
+    EQUAL(cgb_number(b.state, CGB_AT_CURSOR_SOURCE, 2), 0x1230);
+    EQUAL(cgb_number(b.state, CGB_AT_CURSOR_DEST, 2), 0x9AB0);
+    EQUAL(cgb_number(b.state, CGB_AT_CURSOR_REMAINING, 2), 64);
+    EQUAL(b.state[CGB_AT_CURSOR_MODE], CGB_TRANSFER_HBLANK);
+    EQUAL(b.state[CGB_AT_KEY1_ARMED], 1);
+    EQUAL(b.state[CGB_AT_VRAM_SELECTED], 1);
+    EQUAL(b.state[CGB_AT_SVBK], 3);
+    EQUAL(b.state[CGB_AT_FF72], 0x72);
+    EQUAL(b.state[CGB_AT_FF73], 0x73);
+    EQUAL(b.state[CGB_AT_FF74], 0x74);
+    EQUAL(b.state[CGB_AT_FF75], 0x70);
+    EQUAL(b.state[CGB_AT_EXTRA_OAM], 0xA0);
+    fall(0);
+    EQUAL(b.state[CGB_AT_ARB_PREV_VIEW_HBLANK], 1);
+    fall(0);
+    EQUAL(b.state[CGB_AT_ARB_GRANTED_AHEAD], 1);
+    EQUAL(b.state[CGB_AT_VRAM_DMA_CLAIM_COMMITTED], 1);
+    fall(0);
+    fall(0);
+    EQUAL(b.state[CGB_AT_CURSOR_QUOTA], 2);
+    EQUAL(CGB_AT_SPARE, 91);
+    EQUAL(CGB_SUSPENDED, 2); /* no call tells it from both bits */
+    k9_granted();
+    EQUAL(b.state[CGB_AT_ARB_GRANTED_AHEAD], 255);
 }
 
 /* ---- The refusals ---- */
@@ -665,6 +722,7 @@ int main(void)
     write_conflict();
     lcd_off();
     wake_park_and_bank();
+    fields();
     refusals();
     texts();
     empty_slices();

@@ -500,7 +500,7 @@ function header_calls(    k) {
     out("../blocks/calls")
     for (k = 1; k <= calls; k++) {
         if (inputs(k)) continue
-        print "/* " name[k] " -> " text[k, "values"] " */" > to
+        wrapped("/* ", " * ", name[k] " -> " text[k, "values"] (text[k, "says"] == "" ? "" : ". " text[k, "says"]) " */")
         print "static inline uint8_t cgb_" tolower(constant(k)) "(uint8_t state[CGB_STATE_BYTES], uint8_t answer[CGB_ANSWER_BYTES])" > to
         print "{" > to
         print "    return cgb_alone(state, answer, CGB_KIND_" constant(k) ", 0, 0, 0, 0);" > to
