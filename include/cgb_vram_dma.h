@@ -60,7 +60,7 @@ enum {
     CGB_CALL_EDGE = 8     /* eight bytes; a blackout drain's elapsed edges are the first four */
 };
 
-/* Bits of byte 5, each group for the calls in front of it. A write has "LCD on if not 0" there. */
+/* Bits of byte 5, each group for the calls named above it. A write has "LCD on if not 0" there. */
 enum {
     /* fall */
     CGB_HALTED = 1,
@@ -155,7 +155,7 @@ enum {
  * (calls.txt: end)
  */
 
-/* ---- An answer's 24 bytes; values that a kind lacks are 0 ---- */
+/* ---- An answer's 24 bytes; values that a kind lacks are 0, and so are bytes 1 and 20 to 23 ---- */
 
 enum {
     CGB_ANSWER_REFUSAL = 0,
