@@ -10,6 +10,7 @@
 //!     MISSINGNO_SRC=.. cargo run --release -- stored < FILE
 //!     MISSINGNO_SRC=.. cargo run --release -- script SEED COUNT > SCRIPT
 //!     MISSINGNO_SRC=.. cargo run --release -- replay < SCRIPT
+//!     MISSINGNO_SRC=.. cargo run --release -- frame
 //!     MISSINGNO_SRC=.. cargo run --release --features port -- compare SEED COUNT [rising]
 //!
 //! Built with BRANCHES=1 the run tells at its end which conditions of the original never came out one way.
@@ -24,6 +25,7 @@ mod cases;
 mod compare;
 pub mod entry;
 mod finer;
+mod frame;
 #[path = "../../../rust/src/kind.rs"]
 mod kind;
 mod layout;
@@ -95,7 +97,7 @@ fn seed_and_count(words: &[String], usage: &str) -> (u64, u64) {
 /// The commands.
 pub fn command() {
     let words: Vec<String> = std::env::args().skip(1).collect();
-    let usage = "usage: oracle vectors|select SEED COUNT [KIND,KIND,..] | cases | aimed | finer SEED COUNT | stored | script SEED COUNT | sample | replay | compare SEED COUNT [rising]";
+    let usage = "usage: oracle vectors|select SEED COUNT [KIND,KIND,..] | cases | aimed | finer SEED COUNT | stored | script SEED COUNT | sample | replay | frame | compare SEED COUNT [rising]";
     match words.first().map(String::as_str) {
         Some("vectors") => vectors::write(&words[1..], usage),
         Some("select") => vectors::select(&words[1..], usage),
@@ -115,6 +117,7 @@ pub fn command() {
             replay::script(seed, count, std::io::stdout().lock()).expect("the script could not be written");
         }
         Some("sample") => sample::write_to(&mut std::io::stdout().lock()).expect("the script could not be written"),
+        Some("frame") => frame::run(),
         #[cfg(feature = "port")]
         Some("compare") => compare::run(&words[1..], usage),
         #[cfg(not(feature = "port"))]
