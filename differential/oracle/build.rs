@@ -8,9 +8,10 @@ mod branches;
 
 fn main() {
     println!("cargo:rerun-if-env-changed=MISSINGNO_SRC");
-    let source = PathBuf::from(env::var("MISSINGNO_SRC").expect(
-        "set MISSINGNO_SRC to the folder crates/systems/gbc/src of ajoneil/missingno (5e5b8d7dad)",
-    ))
+    let source = PathBuf::from(
+        env::var("MISSINGNO_SRC")
+            .expect("set MISSINGNO_SRC to the folder crates/systems/gbc/src of ajoneil/missingno (5e5b8d7dad)"),
+    )
     .canonicalize()
     .expect("MISSINGNO_SRC names no folder");
     let out = PathBuf::from(env::var("OUT_DIR").unwrap());

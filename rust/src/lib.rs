@@ -8,9 +8,7 @@ mod query;
 mod record;
 
 pub use entry::{CARTRIDGE_BYTES, Memory, OAM_BYTES, VRAM_BYTES, WRAM_BYTES};
-pub use record::{
-    Arbitration, Claim, CutOutcome, Fall, Moved, Pair, Refusal, Status, SwitchInputs, Tally,
-};
+pub use record::{Arbitration, Claim, CutOutcome, Fall, Moved, Pair, Refusal, Status, SwitchInputs, Tally};
 
 use entry::{ANSWER_BYTES, STATE_BYTES};
 use record::{Answer, Record};
@@ -87,7 +85,8 @@ impl Cgb {
 
     pub fn attempt_speed_switch(&mut self, inputs: SwitchInputs) -> Result<CutOutcome, Refusal> {
         let phase = inputs.dot_phase.unwrap_or(4);
-        let record = Record::of(kind::SPEED_SWITCH).small(phase).bits(&[inputs.hold, inputs.interrupt_ready]).edge(inputs.edge);
+        let record =
+            Record::of(kind::SPEED_SWITCH).small(phase).bits(&[inputs.hold, inputs.interrupt_ready]).edge(inputs.edge);
         Ok(self.alone(record)?.cut())
     }
 

@@ -188,12 +188,7 @@ impl Answer {
         }
     }
     pub fn tally(&self) -> Tally {
-        Tally {
-            source: self.word(0),
-            destination: self.word(1),
-            left: self.word(2),
-            escape_owed: self.flag(3),
-        }
+        Tally { source: self.word(0), destination: self.word(1), left: self.word(2), escape_owed: self.flag(3) }
     }
     pub fn status(&self) -> Status {
         match self.word(0) {

@@ -269,7 +269,11 @@ fn questions(a: &mut Aim) {
         }
     }
     for blackout in [0, 1, 2, 3, 4, 5, 6, 255, 256, 65_536, 131_077, 1 << 24, u32::MAX as u64] {
-        a.around_both(a.rest().with(&[(BLACKOUT, blackout)]), &[], &[kind::SWITCH_IN_PROGRESS, kind::DIVIDER_ACTIVE].map(plain));
+        a.around_both(
+            a.rest().with(&[(BLACKOUT, blackout)]),
+            &[],
+            &[kind::SWITCH_IN_PROGRESS, kind::DIVIDER_ACTIVE].map(plain),
+        );
     }
     a.around_both(a.rest(), &[&[(BLACKOUT, 9)]], &[kind::DOUBLE_SPEED, kind::CPU_STEPS_PER_DOT].map(plain));
 }
@@ -333,8 +337,25 @@ fn reads(a: &mut Aim) {
     ];
     a.around(told, &changes, &[0xFF4C, 0xFF4D, 0xFF4F, 0xFF70, 0xFF74, 0xFF75].map(|x| at(kind::READ, x)));
     for (mode, left, granted) in [
-        (0, 0, 0), (0, 16, 0), (0, 2048, 0), (1, 16, 0), (1, 2048, 3), (2, 16, 0), (2, 16, 1), (2, 16, 2), (2, 15, 0), (2, 17, 1),
-        (2, 32, 1), (2, 2048, 0), (2, 2048, 1), (2, 2048, 127), (2, 2048, 128), (2, 2048, 255), (2, 1, 0), (2, 31, 1), (0, 32, 1),
+        (0, 0, 0),
+        (0, 16, 0),
+        (0, 2048, 0),
+        (1, 16, 0),
+        (1, 2048, 3),
+        (2, 16, 0),
+        (2, 16, 1),
+        (2, 16, 2),
+        (2, 15, 0),
+        (2, 17, 1),
+        (2, 32, 1),
+        (2, 2048, 0),
+        (2, 2048, 1),
+        (2, 2048, 127),
+        (2, 2048, 128),
+        (2, 2048, 255),
+        (2, 1, 0),
+        (2, 31, 1),
+        (0, 32, 1),
     ] {
         let state = told.with(&[(MODE, mode), (LEFT, left), (GRANTED, granted)]);
         a.around(state, &[&[(COMPAT, 1)]], &[at(kind::READ, 0xFF55)]);
@@ -345,8 +366,8 @@ fn reads(a: &mut Aim) {
 fn writes(a: &mut Aim) {
     let told = a.rest().with(&[(SVBK, 3)]);
     const LIMITS: [u16; 20] = [
-        0x7FFF, 0x9FFF, 0xBFFF, 0xC000, 0xCFFF, 0xD000, 0xDFFF, 0xE000, 0xEFFF, 0xF000, 0xFDFF, 0xFE00, 0xFE9F, 0xFEA0, 0xFEBF,
-        0xFEC0, 0xFEE0, 0xFEFF, 0xFF00, 0xFFFF,
+        0x7FFF, 0x9FFF, 0xBFFF, 0xC000, 0xCFFF, 0xD000, 0xDFFF, 0xE000, 0xEFFF, 0xF000, 0xFDFF, 0xFE00, 0xFE9F, 0xFEA0,
+        0xFEBF, 0xFEC0, 0xFEE0, 0xFEFF, 0xFF00, 0xFFFF,
     ];
     for address in LIMITS {
         a.around(told, &[&[(COMPAT, 1)]], &[write(address, 0x5A, true)]);
@@ -393,7 +414,8 @@ fn arming(a: &mut Aim) {
 
 /// The next pair and the escape drain: each condition off by itself, the counts at 1, the carry and the wrap.
 fn pairs(a: &mut Aim) {
-    let block = a.rest().with(&[(BLOCK, 16), (LEFT, 32), (QUOTA, 2), (ESCAPE, 1), (MODE, 2), (SOURCE, 0x4321), (DEST, 0x8765)]);
+    let block =
+        a.rest().with(&[(BLOCK, 16), (LEFT, 32), (QUOTA, 2), (ESCAPE, 1), (MODE, 2), (SOURCE, 0x4321), (DEST, 0x8765)]);
     let changes: [Settings; 30] = [
         &[(ESCAPE, 0)],
         &[(QUOTA, 0)],
@@ -451,8 +473,8 @@ fn bus_calls(a: &mut Aim) {
     a.around(block, &changes, &[bus(1, 0), bus(2, 0)]);
     a.around(block, &changes[..1], &[bus(0, 0), bus(3, 0)]);
     const SOURCES: [u64; 20] = [
-        0x0000, 0x1FFF, 0x2000, 0x7FFF, 0x8000, 0x9FFF, 0xA000, 0xBFFF, 0xC000, 0xCFFF, 0xD000, 0xDFFF, 0xE000, 0xEFFF, 0xF000,
-        0xFDFF, 0xFE00, 0xFEA0, 0xFF55, 0xFFFF,
+        0x0000, 0x1FFF, 0x2000, 0x7FFF, 0x8000, 0x9FFF, 0xA000, 0xBFFF, 0xC000, 0xCFFF, 0xD000, 0xDFFF, 0xE000, 0xEFFF,
+        0xF000, 0xFDFF, 0xFE00, 0xFEA0, 0xFF55, 0xFFFF,
     ];
     for source in SOURCES {
         for quota in [1, 2] {
@@ -475,8 +497,23 @@ fn bus_calls(a: &mut Aim) {
 /// A contended bus call: every phase, one pair and two, both edges at their limits, OAM's end.
 fn deposits(a: &mut Aim, block: State) {
     for (start, oam) in [
-        (100, 98), (100, 97), (100, 96), (100, 95), (100, 94), (100, 93), (100, 92), (100, 91), (100, 90), (0, 0), (1, 0), (0, 1),
-        (2, 0), (0, u64::MAX), (u64::MAX, 0), (1 << 63, 1), (3, 8),
+        (100, 98),
+        (100, 97),
+        (100, 96),
+        (100, 95),
+        (100, 94),
+        (100, 93),
+        (100, 92),
+        (100, 91),
+        (100, 90),
+        (0, 0),
+        (1, 0),
+        (0, 1),
+        (2, 0),
+        (0, u64::MAX),
+        (u64::MAX, 0),
+        (1 << 63, 1),
+        (3, 8),
     ] {
         for quota in [1, 2] {
             a.ask(block.with(&[(START_EDGE, start), (QUOTA, quota)]), bus(1, oam));
@@ -533,8 +570,24 @@ fn switches(a: &mut Aim) {
 /// The blackout drains to 1, to 0 and past it; a wake is taken in.
 fn blackouts(a: &mut Aim) {
     for (blackout, edges) in [
-        (0, 0), (0, 1), (1, 0), (1, 1), (1, 2), (2, 1), (5, 4), (5, 5), (6, 5), (256, 255), (256, 256), (65_536, 1), (65_536, 65_535),
-        (131_077, 131_076), (131_077, 131_077), (262_146, u32::MAX), (u32::MAX, 1), (u32::MAX, u32::MAX),
+        (0, 0),
+        (0, 1),
+        (1, 0),
+        (1, 1),
+        (1, 2),
+        (2, 1),
+        (5, 4),
+        (5, 5),
+        (6, 5),
+        (256, 255),
+        (256, 256),
+        (65_536, 1),
+        (65_536, 65_535),
+        (131_077, 131_076),
+        (131_077, 131_077),
+        (262_146, u32::MAX),
+        (u32::MAX, 1),
+        (u32::MAX, u32::MAX),
     ] {
         let state = a.rest().with(&[(BLACKOUT, blackout as u64)]);
         let changes: [Settings; 2] = [&[(LATENCY, 1)], &[(LATENCY, 1), (LATENCY_LEFT, 2)]];
@@ -628,7 +681,8 @@ fn starts(a: &mut Aim) {
     ];
     let falls = [fall(3, RUNNING), fall(0, RUNNING), fall(3, HALTED), fall(3, STOPPED)];
     a.around(a.rest().with(&launched), &probations, &falls);
-    let latched = [(BLOCK, 16), (READY, 2), (SETUP, 1), (LEFT, 32), (MODE, 2), (PEND_AGE, 3), (TAKEN, 1), (PEND_FROM_ARM, 1)];
+    let latched =
+        [(BLOCK, 16), (READY, 2), (SETUP, 1), (LEFT, 32), (MODE, 2), (PEND_AGE, 3), (TAKEN, 1), (PEND_FROM_ARM, 1)];
     let joins: [Settings; 9] = [
         &[(PREV_HALTED, 1)],
         &[(BLOCK, 15)],
@@ -753,7 +807,8 @@ fn commits(a: &mut Aim) {
 
 /// Step 6: the new pend, readiness, quota and the seize count, each condition off by itself, the counters at their limits.
 fn serves(a: &mut Aim) {
-    let waits = a.rest().with(&[(MODE, 2), (LEFT, 32), (PEND_AGE, 7), (PEND_FROM_ARM, 1), (TENURE, 9), (PREV_HBLANK, 1)]);
+    let waits =
+        a.rest().with(&[(MODE, 2), (LEFT, 32), (PEND_AGE, 7), (PEND_FROM_ARM, 1), (TENURE, 9), (PREV_HBLANK, 1)]);
     let pends: [Settings; 11] = [
         &[(MODE, 0)],
         &[(MODE, 1)],
@@ -829,11 +884,19 @@ fn two_reasons(a: &mut Aim) {
     };
     // 7 with 1; 1 with 14.
     let pend = a.rest().with(&[(MODE, 2), (LEFT, 32), (PEND, 1), (GRANTED, 255)]);
-    a.around(pend, &failing, &[fall(0, RUNNING), fall(3, RUNNING), fall(4, RUNNING), fall(255, RUNNING), fall(4, HALTED)]);
+    a.around(
+        pend,
+        &failing,
+        &[fall(0, RUNNING), fall(3, RUNNING), fall(4, RUNNING), fall(255, RUNNING), fall(4, HALTED)],
+    );
     // 7 with 2; 2 with 4; 7 with 4.
     for address in [0xC000, 0xFF55, 0x8000, 0xFF6C] {
         for access in [at(kind::READ, address), write(address, 0x80, true)] {
-            a.around(a.rest(), &failing[..1], &[access, short(access, 1, -1), short(access, 1, 1), short(access, 0, 1)]);
+            a.around(
+                a.rest(),
+                &failing[..1],
+                &[access, short(access, 1, -1), short(access, 1, 1), short(access, 0, 1)],
+            );
         }
     }
     let moving = a.rest().with(&[(BLOCK, 16), (LEFT, 32), (QUOTA, 2), (SOURCE, 0xC000)]);

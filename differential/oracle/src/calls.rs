@@ -25,8 +25,7 @@ impl Call {
     pub fn new(kind: u8) -> Self {
         let mut record = [0; 16];
         record[0] = kind;
-        let lengths =
-            [memory::CARTRIDGE, memory::WRAM, memory::VRAM, memory::OAM].map(|n| n as u32);
+        let lengths = [memory::CARTRIDGE, memory::WRAM, memory::VRAM, memory::OAM].map(|n| n as u32);
         Self { record, lengths }
     }
     pub fn address(&self) -> u16 {
@@ -288,7 +287,8 @@ impl Oracle {
                 if !self.cgb.attempt_speed_switch(&mut self.chassis) {
                     return declined(reason);
                 }
-                let cut = up && latched && self.cgb.vram_dma.block.remaining == 1 && self.cgb.vram_dma.cursor.escape_byte;
+                let cut =
+                    up && latched && self.cgb.vram_dma.block.remaining == 1 && self.cgb.vram_dma.cursor.escape_byte;
                 let discarded = up && latched && self.cgb.vram_dma.block.remaining == 0;
                 assert!(!up || !latched || cut != discarded);
                 assert!(cut || escape == self.cgb.vram_dma.cursor.escape_byte);
@@ -346,7 +346,9 @@ impl Oracle {
             kind::STATUS => match self.cgb.vram_dma_status() {
                 VramDmaStatus::Idle => {}
                 VramDmaStatus::General { remaining } => answer = Answer::values(&[1, remaining]),
-                VramDmaStatus::HBlank { remaining, source, dest } => answer = Answer::values(&[2, remaining, source, dest]),
+                VramDmaStatus::HBlank { remaining, source, dest } => {
+                    answer = Answer::values(&[2, remaining, source, dest])
+                }
             },
             kind::CLAIM => {
                 let claim = self.cgb.console_state.vram_dma_claim();

@@ -166,7 +166,8 @@ fn k8(c: &mut Case, block_edge: u64, oam_edge: u64, second: bool) {
     bus.record[5] = 1;
     bus.record[8..16].copy_from_slice(&oam_edge.to_le_bytes());
     let moved = c.vector(bus);
-    let deposits: Vec<u16> = moved.changes.iter().filter(|change| change.which == 3).map(|change| change.index).collect();
+    let deposits: Vec<u16> =
+        moved.changes.iter().filter(|change| change.which == 3).map(|change| change.index).collect();
     assert_eq!(deposits, vec![second as u16], "edges {block_edge} and {oam_edge}");
 }
 

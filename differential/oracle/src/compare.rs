@@ -64,8 +64,7 @@ struct Gave {
     answer: Answer,
 }
 
-const LENGTHS: [usize; 4] =
-    [entry::CARTRIDGE_BYTES, entry::WRAM_BYTES, entry::VRAM_BYTES, entry::OAM_BYTES];
+const LENGTHS: [usize; 4] = [entry::CARTRIDGE_BYTES, entry::WRAM_BYTES, entry::VRAM_BYTES, entry::OAM_BYTES];
 
 impl Port {
     fn new(r: &mut Random) -> Self {
@@ -262,11 +261,8 @@ pub fn run(given: &[String], usage: &str) {
         run.rising = rising.then_some(0);
         let mut phase = 5;
         for step in 0..if listed { 64 + r.below(960) } else { 128 } {
-            let mut call = if listed {
-                vectors::likely(&mut r, &kinds, step, &mut phase)
-            } else {
-                vectors::call(&mut r, &kinds)
-            };
+            let mut call =
+                if listed { vectors::likely(&mut r, &kinds, step, &mut phase) } else { vectors::call(&mut r, &kinds) };
             let before = if listed { now } else { vectors::state(&mut r) };
             finer::aim(&mut r, &mut call, &before);
             now = run.step(call, &before);

@@ -12,9 +12,33 @@ use crate::vectors;
 
 /// The engine's fields as (first byte, width, limit): a counter is drawn at its limit and beside it, a flag has limit 1.
 const FIELDS: [(usize, usize, u16); 27] = [
-    (0, 2, 0xFFFF), (2, 2, 0xFFFF), (7, 1, 2), (8, 1, 1), (9, 1, 16), (18, 1, 1), (19, 1, 1), (20, 1, 2), (21, 1, 2), (22, 1, 1),
-    (23, 1, 1), (24, 1, 1), (25, 1, 1), (26, 1, 1), (27, 1, 4), (28, 1, 1), (29, 1, 4), (30, 1, 1), (31, 1, 36), (33, 1, 1),
-    (34, 1, 3), (35, 1, 1), (36, 1, 1), (37, 1, 6), (38, 1, 255), (39, 1, 1), (40, 1, 1),
+    (0, 2, 0xFFFF),
+    (2, 2, 0xFFFF),
+    (7, 1, 2),
+    (8, 1, 1),
+    (9, 1, 16),
+    (18, 1, 1),
+    (19, 1, 1),
+    (20, 1, 2),
+    (21, 1, 2),
+    (22, 1, 1),
+    (23, 1, 1),
+    (24, 1, 1),
+    (25, 1, 1),
+    (26, 1, 1),
+    (27, 1, 4),
+    (28, 1, 1),
+    (29, 1, 4),
+    (30, 1, 1),
+    (31, 1, 36),
+    (33, 1, 1),
+    (34, 1, 3),
+    (35, 1, 1),
+    (36, 1, 1),
+    (37, 1, 6),
+    (38, 1, 255),
+    (39, 1, 1),
+    (40, 1, 1),
 ];
 
 /// Where the map changes from one part to the next.
@@ -68,7 +92,11 @@ pub fn aim(r: &mut Random, call: &mut Call, before: &[u8; SIZE]) {
 
 /// The address of a read or a write: itself where the map is fine or has a limit, else its upper four bits.
 fn place(address: u16) -> u16 {
-    if address >= 0xFE00 || address & 0x0FFF == 0 || address & 0x0FFF == 0x0FFF || address == 0xFDFF { address } else { address >> 12 }
+    if address >= 0xFE00 || address & 0x0FFF == 0 || address & 0x0FFF == 0x0FFF || address == 0xFDFF {
+        address
+    } else {
+        address >> 12
+    }
 }
 
 /// What of a written value counts at an address.
