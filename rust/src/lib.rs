@@ -84,9 +84,8 @@ impl Cgb {
     }
 
     pub fn attempt_speed_switch(&mut self, inputs: SwitchInputs) -> Result<CutOutcome, Refusal> {
-        let phase = inputs.dot_phase.unwrap_or(4);
-        let record =
-            Record::of(kind::SPEED_SWITCH).small(phase).bits(&[inputs.hold, inputs.interrupt_ready]).edge(inputs.edge);
+        let bits = [inputs.hold, inputs.interrupt_ready];
+        let record = Record::of(kind::SPEED_SWITCH).dot_phase(inputs.dot_phase).bits(&bits).edge(inputs.edge);
         Ok(self.alone(record)?.cut())
     }
 

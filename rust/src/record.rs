@@ -68,7 +68,7 @@ pub struct Fall {
 
 #[derive(Clone, Copy, Debug, Default)]
 pub struct SwitchInputs {
-    /// 0 to 3; 4 is the same as None, and more gets refusal 3.
+    /// 0 to 3; `Some` of 4 or more gets refusal 3.
     pub dot_phase: Option<u8>,
     pub hold: bool,
     pub interrupt_ready: bool,
@@ -135,6 +135,15 @@ impl Record {
     pub fn small(mut self, value: u8) -> Self {
         self.0[4] = value;
         self
+    }
+    /// 4 stands for no phase: a phase of 4 must not be taken for that, so all that are none of 0 to 3 go as one that is
+    /// refused.
+    pub fn dot_phase(self, phase: Option<u8>) -> Self {
+        self.small(match phase {
+            None => 4,
+            Some(phase @ 0..=3) => phase,
+            Some(_) => u8::MAX,
+        })
     }
     pub fn bits(mut self, bits: &[bool]) -> Self {
         self.0[5] = bits.iter().rev().fold(0, |all, bit| all << 1 | *bit as u8);

@@ -160,3 +160,23 @@ fn refusals_have_the_paper_s_numbers_and_change_nothing() {
     assert_eq!(b.cgb.attempt_speed_switch(switch(None, false)), Err(Refusal::BlackoutRunning));
     assert_eq!(Cgb::from_bytes([0xFF; Cgb::BYTES]).tally(), Err(Refusal::NoState));
 }
+
+/// "dot phase 0 to 3 or 4 for none": none is `None` here, so 4 is refused like any other, and after 7.
+#[test]
+fn a_phase_that_is_none_of_0_to_3_is_refused() {
+    let mut b = Bench::new(false);
+    b.write(0xFF4D, 0x01);
+    let before = b.cgb.clone();
+    let at = |dot_phase| SwitchInputs { dot_phase: Some(dot_phase), ..SwitchInputs::default() };
+    for phase in 4..=255 {
+        assert_eq!(b.cgb.attempt_speed_switch(at(phase)), Err(Refusal::DotPhaseAbove4), "{phase}");
+        assert!(b.cgb == before);
+    }
+    for phase in 0..=3 {
+        assert_eq!(before.clone().attempt_speed_switch(at(phase)), Ok(CutOutcome::None), "{phase}");
+    }
+    // A quota of 3 is of no run.
+    let mut bytes = *before.bytes();
+    bytes[7] = 3;
+    assert_eq!(Cgb::from_bytes(bytes).attempt_speed_switch(at(4)), Err(Refusal::NoState));
+}
