@@ -139,7 +139,7 @@ enum {
  *  12 wake intake            5 bit 0 M-cycle boundary
  *                            -> a flag
  *  13 instruction retired    -> none
- *  14 tally                  -> source, destination, left, escape owed
+ *  14 tally                  -> source, destination register, left, escape owed
  *  15 status                 -> 0 Idle; 1 General, left; 2 HBlank, left, source, where the next byte lands
  *  16 claim                  -> committed, standing
  *  17 park waits for fetch   -> a flag

@@ -96,11 +96,11 @@ pub enum Arbitration {
     Stall,
 }
 
-/// The engine's registers as they run, the destination with all its 16 bits.
+/// The engine's registers as they run. The destination is the register with all its 16 bits, no address in VRAM.
 #[derive(Clone, Copy, Debug, PartialEq, Eq)]
 pub struct Tally {
     pub source: u16,
-    pub destination: u16,
+    pub destination_register: u16,
     pub left: u16,
     pub escape_owed: bool,
 }
@@ -197,7 +197,12 @@ impl Answer {
         }
     }
     pub fn tally(&self) -> Tally {
-        Tally { source: self.word(0), destination: self.word(1), left: self.word(2), escape_owed: self.flag(3) }
+        Tally {
+            source: self.word(0),
+            destination_register: self.word(1),
+            left: self.word(2),
+            escape_owed: self.flag(3),
+        }
     }
     pub fn status(&self) -> Status {
         match self.word(0) {

@@ -118,11 +118,14 @@ fn k4_carry_and_k5_wrap() {
     b.destination(0xFFF0);
     b.write(0xFF55, 0x01);
     assert_eq!(b.run().len(), 16);
+    assert_eq!(b.cgb.tally().map(|t| (t.destination_register, t.left)), Ok((0, 0)));
     let mut b = Bench::new(false);
     b.destination(0x9FF0);
     b.write(0xFF55, 0x01);
     let pairs = b.run();
     assert_eq!((pairs.len(), pairs[16].destination), (32, 0x8000));
+    // The register runs on: it is no address in VRAM.
+    assert_eq!(b.cgb.tally().map(|t| t.destination_register), Ok(0xA010));
 }
 
 #[test]
