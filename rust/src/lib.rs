@@ -6,9 +6,11 @@ pub mod entry;
 pub mod kind;
 mod query;
 mod record;
+mod refusal;
 
 pub use entry::{CARTRIDGE_BYTES, Memory, OAM_BYTES, VRAM_BYTES, WRAM_BYTES};
-pub use record::{Arbitration, Claim, CutOutcome, Fall, Moved, Pair, Refusal, Status, SwitchInputs, Tally};
+pub use record::{Arbitration, Claim, CutOutcome, Fall, Moved, Pair, Status, SwitchInputs, Tally};
+pub use refusal::Refusal;
 
 use entry::{ANSWER_BYTES, STATE_BYTES};
 use record::{Answer, Record};

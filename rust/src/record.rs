@@ -1,51 +1,6 @@
 //! A call's record, an answer's record (include/cgb_vram_dma.h) and what they stand for.
 use crate::entry::{ANSWER_BYTES, CALL_BYTES};
 
-/// Document 01's numbers.
-#[derive(Clone, Copy, Debug, PartialEq, Eq)]
-pub enum Refusal {
-    ModeAbove3 = 1,
-    SliceLength = 2,
-    DotPhaseAbove4 = 3,
-    AddressNotInMap = 4,
-    SwitchUnderHold = 5,
-    NoCall = 6,
-    NoState = 7,
-    BlackoutRunning = 11,
-    SpeedNotArmed = 12,
-    BlockReady = 13,
-    GrantedFull = 14,
-}
-
-impl Refusal {
-    const ALL: [Self; 11] = [
-        Self::ModeAbove3,
-        Self::SliceLength,
-        Self::DotPhaseAbove4,
-        Self::AddressNotInMap,
-        Self::SwitchUnderHold,
-        Self::NoCall,
-        Self::NoState,
-        Self::BlackoutRunning,
-        Self::SpeedNotArmed,
-        Self::BlockReady,
-        Self::GrantedFull,
-    ];
-
-    /// The library gives 0 or one of these numbers.
-    pub(crate) fn of(number: u8) -> Option<Self> {
-        Self::ALL.into_iter().find(|r| *r as u8 == number)
-    }
-}
-
-impl std::fmt::Display for Refusal {
-    fn fmt(&self, f: &mut std::fmt::Formatter) -> std::fmt::Result {
-        write!(f, "refused with {}: {self:?}", *self as u8)
-    }
-}
-
-impl std::error::Error for Refusal {}
-
 /// A byte's way: where it is read and where it lands, an address from 8000h to 9FFFh.
 #[derive(Clone, Copy, Debug, PartialEq, Eq)]
 pub struct Pair {

@@ -183,3 +183,19 @@ fn a_phase_that_is_none_of_0_to_3_is_refused() {
     bytes[7] = 3;
     assert_eq!(Cgb::from_bytes(bytes).attempt_speed_switch(at(4)), Err(Refusal::NoState));
 }
+
+/// Document 01, "Declined by input" and "Declined by state".
+#[test]
+fn a_refusal_says_its_number() {
+    let numbers: Vec<u8> = Refusal::NAMED.iter().map(|refusal| refusal.number()).collect();
+    assert_eq!(numbers, [1, 2, 3, 4, 5, 6, 7, 11, 12, 13, 14]);
+    assert_eq!(Refusal::of(0), None);
+    for number in 1..=255 {
+        let refusal = Refusal::of(number).unwrap();
+        assert_eq!(refusal.number(), number);
+        assert_eq!(Refusal::NAMED.contains(&refusal), numbers.contains(&number));
+        assert!(refusal.to_string().starts_with(&format!("refused with {number}: ")), "{refusal}");
+    }
+    let text = "refused with 12: a speed switch is attempted and KEY1 (FF4D bit 0) is not armed";
+    assert_eq!(Refusal::SpeedNotArmed.to_string(), text);
+}
