@@ -429,17 +429,28 @@ function answered_proof(    i, k, n, list) {
 
 function constant(k,    n) { n = toupper(name[k]); gsub(/[ -]/, "_", n); return n }
 
-function rust_kinds(    k) {
+# a comment of the documentation
+function rust_doc(indent, words) { wrapped(indent "/// ", indent "/// ", words) }
+
+function rust_kinds(    k, inputs) {
     folder("rust/src/kind.rs"); out("rust/src/kind.rs")
-    print "//! The kinds of call. Written by tools/calls from calls.txt." > to
-    for (k = 1; k <= calls; k++) print "pub const " constant(k) ": u8 = " kind[k] ";" > to
+    print "//! The kinds of call: byte 0 of a record. Of each, the bytes of the record that hold its inputs, and the values of its" > to
+    print "//! answer. Written by tools/calls from calls.txt." > to
+    for (k = 1; k <= calls; k++) {
+        print "" > to
+        inputs = text[k, "layout"] == "" ? "No inputs" : "Inputs by byte: " text[k, "layout"]
+        rust_doc("", capital(name[k]) " (`" fn[k] "`). " inputs (inputs ~ /\?$/ ? "" : ".") " Values: " text[k, "values"] ".")
+        print "pub const " constant(k) ": u8 = " kind[k] ";" > to
+    }
+    print "" > to
+    rust_doc("", "The last kind: those above it are of no call.")
     print "pub const LAST: u8 = " kind[calls] ";" > to
     close(to)
 }
 
 function rust_queries(    i, k) {
     out("rust/src/query.rs")
-    print "//! The queries: each leaves the state as it is. Written by tools/calls from calls.txt." > to
+    print "//! The queries: each leaves the state as it is, and 7 alone refuses it. Written by tools/calls from calls.txt." > to
     print "use crate::record::Record;" > to
     print "use crate::{Cgb, Claim, Refusal, Status, Tally, kind};" > to
     print "" > to
@@ -447,6 +458,8 @@ function rust_queries(    i, k) {
     for (i = 1; i <= queries; i++) {
         k = query[i]
         if (i > 1) print "" > to
+        if (text[k, "says"] == "") { print "calls: " name[k] " says nothing" > "/dev/stderr"; exit 1 }
+        rust_doc("    ", text[k, "says"])
         if (answer[k] == "flag" || answer[k] == "byte") {
             print "    pub fn " fn[k] "(&self) -> Result<" (answer[k] == "flag" ? "bool" : "u8") ", Refusal> {" > to
             print "        self.ask_" answer[k] "(kind::" constant(k) ")" > to

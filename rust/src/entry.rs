@@ -1,23 +1,43 @@
-//! The library's two functions on bytes, as include/cgb_vram_dma.h has them: the one extern block, and the only unsafe code. The
-//! typed calls stand on it, and so do the run beside the original (differential/) and the measurements (bench/).
+//! The library's two functions on bytes, as include/cgb_vram_dma.h has them: the one extern block, and the only unsafe
+//! code. The typed calls stand on it, and so do the run beside the original (differential/) and the measurements
+//! (bench/).
+use core::fmt;
 
+/// The length of a state (docs/STATE-LAYOUT.md).
 pub const STATE_BYTES: usize = 248;
+/// The length of a call's record: byte 0 is its kind ([`kind`](crate::kind)), behind it are the inputs.
 pub const CALL_BYTES: usize = 16;
+/// The length of an answer's record: byte 0 is the refusal or 0, bytes 2 to 9 are four values of two bytes, bytes 10 to
+/// 19 the pairs of a bus call.
 pub const ANSWER_BYTES: usize = 24;
 
-/// The lengths that lent memory must have.
+/// The length of the cartridge's slice: addresses below 8000h, then A000h to BFFFh from index 8000h on.
 pub const CARTRIDGE_BYTES: usize = 40_960;
+/// The length of WRAM: eight banks of 4,096 bytes.
 pub const WRAM_BYTES: usize = 32_768;
+/// The length of VRAM: two banks of 8,192 bytes.
 pub const VRAM_BYTES: usize = 16_384;
+/// The length of OAM: addresses FE00h to FE9Fh.
 pub const OAM_BYTES: usize = 160;
 
-/// What a call lends: a slice of another length than the call wants gets refusal 2.
+/// What a call lends: a slice of another length than the call wants gets refusal 2. Nothing is kept after the call.
 pub struct Memory<'a> {
-    /// Addresses below 8000h, then A000h to BFFFh from index 8000h on.
+    /// [`CARTRIDGE_BYTES`]: what the engine reads below 8000h, then A000h to BFFFh from index 8000h on.
     pub cartridge: &'a [u8],
+    /// [`WRAM_BYTES`], in banks of 4,096: bank 0 is at C000h, the bank of FF70 (1 where that is 0) at D000h.
     pub wram: &'a mut [u8],
+    /// [`VRAM_BYTES`], in banks of 8,192: the bank of FF4F is at 8000h.
     pub vram: &'a mut [u8],
+    /// [`OAM_BYTES`], from FE00h on.
     pub oam: &'a mut [u8],
+}
+
+/// The lengths alone: the bytes would fill pages.
+impl fmt::Debug for Memory<'_> {
+    fn fmt(&self, f: &mut fmt::Formatter) -> fmt::Result {
+        let lengths = [self.cartridge.len(), self.wram.len(), self.vram.len(), self.oam.len()];
+        write!(f, "Memory of {lengths:?} bytes")
+    }
 }
 
 unsafe extern "C" {
@@ -37,6 +57,8 @@ unsafe extern "C" {
     ) -> u8;
 }
 
+/// The state at power-on; `compat` for a DMG cartridge in compatibility mode.
+#[must_use]
 pub fn power_on(compat: bool) -> [u8; STATE_BYTES] {
     let mut state = [0; STATE_BYTES];
     // SAFETY: 248 bytes are lent, as the header asks.
@@ -44,8 +66,11 @@ pub fn power_on(compat: bool) -> [u8; STATE_BYTES] {
     state
 }
 
-/// The refusal, or 0; the answer is written whole by every call.
+/// Performs the call that the record says, and gives its refusal, or 0: 7 where the bytes are no state's, 6 where the
+/// record is of no call, else the call's own. A refused call leaves the state and lent memory as they were. Every call
+/// writes the answer whole, and its byte 0 is the result.
 #[inline]
+#[must_use = "a refused call did nothing"]
 pub fn perform(
     state: &mut [u8; STATE_BYTES],
     call: &[u8; CALL_BYTES],

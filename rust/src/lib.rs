@@ -1,15 +1,55 @@
-//! The proved model of the Game Boy Color's VRAM DMA engine and speed switch, behind safe calls. Each method is one call of
-//! the library's entry (include/cgb_vram_dma.h has the layouts, docs/LIBRARY.md the table of calls): it gives the answer, or
-//! the refusal, and then neither the state nor lent memory has changed. No call panics.
+//! The proved model of the Game Boy Color's VRAM DMA engine (FF51 to FF55) and speed switch (FF4D), behind safe calls.
+//!
+//! [`Cgb`] is the state. Each method is one call of the library: it gives the call's answer, or the [`Refusal`], and
+//! then neither the state nor lent memory has changed. Every call is refused with 7 where the bytes are no state's or
+//! the state fails one of six tests ([`Refusal::NoState`]); what else refuses it is said at the method, in the order of
+//! the tests. A query takes `&self`, and 7 alone refuses it. No call panics, and none keeps what it was lent.
+//!
+//! A General transfer of 16 bytes from the cartridge into VRAM, in document 01's rounds of a fall and a held bus call
+//! (K1):
+//!
+//! ```
+//! use cgb_vram_dma::{CARTRIDGE_BYTES, Cgb, Fall, Memory, OAM_BYTES, Refusal, Status, VRAM_BYTES, WRAM_BYTES};
+//!
+//! # fn main() -> Result<(), Refusal> {
+//! let cartridge: Vec<u8> = (0..CARTRIDGE_BYTES).map(|i| (i * 3 + 1) as u8).collect();
+//! let (mut wram, mut vram, mut oam) = (vec![0; WRAM_BYTES], vec![0; VRAM_BYTES], vec![0; OAM_BYTES]);
+//!
+//! let mut cgb = Cgb::power_on(false);
+//! cgb.write(&mut wram, 0xFF55, 0x00, true)?;
+//! assert_eq!(cgb.vram_dma_status()?, Status::General { left: 16 });
+//! while cgb.vram_dma_status()? != Status::Idle {
+//!     cgb.vram_dma_fall_edge(Fall { mode: 3, ..Fall::default() })?;
+//!     let memory = Memory { cartridge: &cartridge, wram: &mut wram, vram: &mut vram, oam: &mut oam };
+//!     cgb.vram_dma_commit_bytes(memory, true, false, 0)?;
+//! }
+//! assert_eq!(vram[..16], cartridge[..16]);
+//! assert_eq!(cgb.read(&mut wram, 0xFF55)?, 0xFF);
+//!
+//! // A refusal: the mode of a fall is 0 to 3.
+//! let refused = cgb.vram_dma_fall_edge(Fall { mode: 4, ..Fall::default() });
+//! assert_eq!(refused, Err(Refusal::ModeAbove3));
+//! assert_eq!(Refusal::ModeAbove3.to_string(), "refused with 1: the mode is above 3");
+//! # Ok(())
+//! # }
+//! ```
+//!
+//! A method has the original's name, where the original has the method. docs/LIBRARY.md has a table of all calls,
+//! docs/STATE-LAYOUT.md the state's bytes; include/cgb_vram_dma.h has the records that [`entry`] takes and gives.
+#![no_std]
+#![deny(missing_docs)]
 
+mod answers;
 pub mod entry;
+mod inputs;
 pub mod kind;
 mod query;
 mod record;
 mod refusal;
 
+pub use answers::{Arbitration, Claim, CutOutcome, Moved, Pair, Status, Tally};
 pub use entry::{CARTRIDGE_BYTES, Memory, OAM_BYTES, VRAM_BYTES, WRAM_BYTES};
-pub use record::{Arbitration, Claim, CutOutcome, Fall, Moved, Pair, Status, SwitchInputs, Tally};
+pub use inputs::{Fall, SwitchInputs};
 pub use refusal::Refusal;
 
 use entry::{ANSWER_BYTES, STATE_BYTES};
@@ -23,23 +63,31 @@ fn perform(state: &mut [u8; STATE_BYTES], call: Record, memory: Memory) -> Resul
     }
 }
 
-/// The state, as its 248 bytes (docs/STATE-LAYOUT.md).
-#[derive(Clone, PartialEq, Eq)]
+/// The state: 248 bytes (docs/STATE-LAYOUT.md). A copy of the bytes is a copy of the state, and two states are equal
+/// exactly if their bytes are.
+#[derive(Clone, PartialEq, Eq, Hash)]
 pub struct Cgb([u8; Cgb::BYTES]);
 
 impl Cgb {
+    /// How many bytes a state has.
     pub const BYTES: usize = STATE_BYTES;
 
+    /// The state at power-on. `compat`: a DMG cartridge in compatibility mode; writes to FF4D, FF51 to FF55, FF70 and
+    /// FF74 then do nothing.
+    #[must_use]
     pub fn power_on(compat: bool) -> Self {
         Self(entry::power_on(compat))
     }
 
     /// Bytes that no state has are taken too: every call on them gets refusal 7.
-    pub fn from_bytes(bytes: [u8; Cgb::BYTES]) -> Self {
+    #[must_use]
+    pub const fn from_bytes(bytes: [u8; Cgb::BYTES]) -> Self {
         Self(bytes)
     }
 
-    pub fn bytes(&self) -> &[u8; Cgb::BYTES] {
+    /// Its bytes.
+    #[must_use]
+    pub const fn bytes(&self) -> &[u8; Cgb::BYTES] {
         &self.0
     }
 
@@ -61,51 +109,81 @@ impl Cgb {
         Ok(self.ask(Record::of(kind))?.byte(0))
     }
 
+    /// Writes a byte: to WRAM (C000h to FDFFh, E000h up repeating C000h up), to FEA0h to FEFFh, or to a register (FF4C,
+    /// FF4D, FF4F, FF51 to FF55, FF70, FF72 to FF75). `lcd_on` is looked at where FF55 arms HBlank: with the LCD off
+    /// that latches a block at once.
+    ///
+    /// Refusals: 2 for WRAM's length, whatever the address; 4 for any other address.
     pub fn write(&mut self, wram: &mut [u8], address: u16, value: u8, lcd_on: bool) -> Result<(), Refusal> {
         let record = Record::of(kind::WRITE).address(address).small(value).bits(&[lcd_on]);
         perform(&mut self.0, record, Memory { cartridge: &[], wram, vram: &mut [], oam: &mut [] }).map(|_| ())
     }
 
-    /// The slice is lent for writing because the entry takes it so; a read leaves it as it is.
+    /// Reads a byte, at the addresses that a write has. The slice is lent for writing because the library takes it so;
+    /// a read leaves it as it is.
+    ///
+    /// Refusals: 2 for WRAM's length, whatever the address; 4 for any other address.
     pub fn read(&self, wram: &mut [u8], address: u16) -> Result<u8, Refusal> {
         let record = Record::of(kind::READ).address(address);
         let memory = Memory { cartridge: &[], wram, vram: &mut [], oam: &mut [] };
         Ok(perform(&mut self.0.clone(), record, memory)?.byte(0))
     }
 
-    /// A fall: a falling edge of the *dot* clock, at either speed (the CPU's clock has two to a dot at double speed). The claim
-    /// says whether this fall committed a block, and whether that claim is standing: the pend's age was 4 or more, and OAM DMA
-    /// owns no bus.
+    /// A fall: one falling edge of the *dot* clock, at either speed (the CPU's clock has two to a dot at double speed).
+    /// It judges whether a block is asked for or committed, and fills up the quota: 0 where the engine does not move,
+    /// else 2, and 1 at double speed. The claim is this fall's own.
+    ///
+    /// Refusals: 1 for a mode above 3; 14 where 255 blocks are granted and a commit would make it one more.
     pub fn vram_dma_fall_edge(&mut self, fall: Fall) -> Result<Claim, Refusal> {
         let bits = [fall.halted, fall.interrupt_latched, fall.stopped, fall.oam_dma];
         Ok(self.alone(Record::of(kind::FALL).small(fall.mode).bits(&bits).edge(fall.edge))?.claim())
     }
 
+    /// The next pair, if quota is left and the engine moves: a General transfer, or a latched block that is ready, with
+    /// bytes left in the transfer. Else none, and nothing changes. The byte itself is the caller's to move; the bus
+    /// call moves it in lent memory.
     pub fn next_byte(&mut self) -> Result<Option<Pair>, Refusal> {
         Ok(self.alone(Record::of(kind::NEXT_PAIR))?.handed())
     }
 
+    /// The speed switch that KEY1 (FF4D bit 0) has armed: the speed changes, KEY1's bit is cleared and a blackout
+    /// begins: 131,077 master edges to double speed, 262,146 to single, the relock debit changing either by 2; or 5 and
+    /// 2 alone, if an interrupt is ready. The answer is what the switch made of a latched block.
+    ///
+    /// Refusals: 3 for a dot phase that is none of 0 to 3; 5 under hold; 11 in a blackout; 12 where KEY1 is not armed;
+    /// 13 to single speed with a latched block that is ready.
     pub fn attempt_speed_switch(&mut self, inputs: SwitchInputs) -> Result<CutOutcome, Refusal> {
         let bits = [inputs.hold, inputs.interrupt_ready];
         let record = Record::of(kind::SPEED_SWITCH).dot_phase(inputs.dot_phase).bits(&bits).edge(inputs.edge);
         Ok(self.alone(record)?.cut())
     }
 
+    /// The LCD is turned off. A transfer that is armed, with bytes left, no block latched and `taken` clear, latches a
+    /// block of 16 bytes, ready after two falls. The idle claim and the relock debit are dropped in any case.
     pub fn vram_dma_lcd_disabled(&mut self) -> Result<(), Refusal> {
         self.alone(Record::of(kind::LCD_OFF)).map(|_| ())
     }
 
+    /// The byte that a cut owes: one pair, if an escape is owed and the engine moves, whatever quota stood; no quota is
+    /// left after it. Else none, and nothing changes. The byte itself is the caller's to move.
     pub fn vram_dma_drain_escape(&mut self) -> Result<Option<Pair>, Refusal> {
         Ok(self.alone(Record::of(kind::ESCAPE_DRAIN))?.handed())
     }
 
-    /// Takes the elapsed master edges from the blackout, and says whether none are left.
+    /// Takes the elapsed master edges from the blackout, not below 0, and says whether none is left. If so, a wake in
+    /// flight is forgotten.
     pub fn drain_speed_switch_blackout(&mut self, elapsed: u32) -> Result<bool, Refusal> {
         Ok(self.alone(Record::of(kind::BLACKOUT_DRAIN).edge(elapsed.into()))?.flag(0))
     }
 
-    /// The bus call: if the CPU is held or the bus suspended, a set-up cell is used up, or what is left of the last fall's quota
-    /// is moved: two bytes at most where that fall was at single speed, one at double.
+    /// The bus call. With neither `hold` (the CPU is held) nor `suspended` (the bus is suspended) it does nothing. Else
+    /// a set-up cell, if one stands, uses up the call; or pairs are moved until none comes, at most what is left of the
+    /// last fall's quota: two bytes where that fall was at single speed, one at double. Where the last arbitration
+    /// answered [`Arbitration::Contended`], one of the bytes goes to OAM as well, at FE00h + the low byte of its
+    /// source, up to FE9Fh; `oam_edge`, the master edge at which OAM DMA started, decides which, and counts for nothing
+    /// else.
+    ///
+    /// Refusal: 2 for any of the four lengths, held or not.
     pub fn vram_dma_commit_bytes(
         &mut self,
         memory: Memory,
@@ -116,6 +194,10 @@ impl Cgb {
         Ok(perform(&mut self.0, Record::of(kind::BUS_CALL).bits(&[hold, suspended]).edge(oam_edge), memory)?.moved())
     }
 
+    /// Who has the bus that OAM DMA and VRAM DMA share. `oam_transfers`: OAM DMA moves a byte now; the state keeps it
+    /// for the next arbitration. Clear, unless the CPU is held or the bus suspended and the engine is about to move a
+    /// byte (it moves, has quota, and no set-up cell stands). Then it is contended at single speed if OAM DMA moves a
+    /// byte now or did at the last arbitration, and a stall at double speed if it does now and an escape is owed.
     pub fn vram_dma_arbitrate_oam(
         &mut self,
         hold: bool,
@@ -125,18 +207,20 @@ impl Cgb {
         Ok(self.alone(Record::of(kind::ARBITRATION).bits(&[hold, suspended, oam_transfers]))?.arbitration())
     }
 
-    /// The write conflict: the source of the byte that the engine is writing at this address, if a CPU *read* of the address
-    /// meets it. That is at double speed only, and once the engine has seized the bus for two falls or more.
+    /// The write conflict: the source of the byte that the engine is writing at this address, if a CPU *read* of the
+    /// address meets it. That is at double speed only, once the engine has seized the bus for two falls or more, with
+    /// bytes left in the block and in the transfer, and at the address where the next byte lands.
     pub fn vram_dma_conflict_source(&self, address: u16) -> Result<Option<u16>, Refusal> {
-        let answer = self.ask(Record::of(kind::WRITE_CONFLICT).address(address))?;
-        Ok(answer.flag(0).then(|| answer.word(1)))
+        Ok(self.ask(Record::of(kind::WRITE_CONFLICT).address(address))?.conflict())
     }
 
-    /// Whether the wake's latency is over: the first call starts it, and a call at an M-cycle's boundary ends it.
+    /// A wake in a blackout: the first call starts a latency of one M-cycle, a later one at an M-cycle's boundary ends
+    /// it. The answer is whether it is over.
     pub fn speed_switch_wake_ready(&mut self, boundary: bool) -> Result<bool, Refusal> {
         Ok(self.alone(Record::of(kind::WAKE_INTAKE).bits(&[boundary]))?.flag(0))
     }
 
+    /// An instruction has retired: the park mark is cleared.
     pub fn vram_dma_instruction_retired(&mut self) -> Result<(), Refusal> {
         self.alone(Record::of(kind::INSTRUCTION_RETIRED)).map(|_| ())
     }

@@ -1,79 +1,6 @@
-//! A call's record, an answer's record (include/cgb_vram_dma.h) and what they stand for.
+//! A call's record and an answer's (include/cgb_vram_dma.h), put together and taken apart.
+use crate::answers::{Arbitration, Claim, CutOutcome, Moved, Pair, Status, Tally};
 use crate::entry::{ANSWER_BYTES, CALL_BYTES};
-
-/// A byte's way: where it is read and where it lands, an address from 8000h to 9FFFh.
-#[derive(Clone, Copy, Debug, PartialEq, Eq)]
-pub struct Pair {
-    pub source: u16,
-    pub destination: u16,
-}
-
-#[derive(Clone, Copy, Debug, Default)]
-pub struct Fall {
-    /// 0 is HBlank.
-    pub mode: u8,
-    pub halted: bool,
-    pub interrupt_latched: bool,
-    pub stopped: bool,
-    /// OAM DMA owns a bus.
-    pub oam_dma: bool,
-    /// The master clock's edge at this fall.
-    pub edge: u64,
-}
-
-#[derive(Clone, Copy, Debug, Default)]
-pub struct SwitchInputs {
-    /// 0 to 3; `Some` of 4 or more gets refusal 3.
-    pub dot_phase: Option<u8>,
-    pub hold: bool,
-    pub interrupt_ready: bool,
-    pub edge: u64,
-}
-
-#[derive(Clone, Copy, Debug, PartialEq, Eq)]
-pub struct Claim {
-    pub committed: bool,
-    pub standing: bool,
-}
-
-/// What a switch did to a latched block.
-#[derive(Clone, Copy, Debug, PartialEq, Eq)]
-pub enum CutOutcome {
-    None,
-    Discarded,
-    Cut,
-}
-
-#[derive(Clone, Copy, Debug, PartialEq, Eq)]
-pub enum Arbitration {
-    Clear,
-    Contended,
-    Stall,
-}
-
-/// The engine's registers as they run. The destination is the register with all its 16 bits, no address in VRAM.
-#[derive(Clone, Copy, Debug, PartialEq, Eq)]
-pub struct Tally {
-    pub source: u16,
-    pub destination_register: u16,
-    pub left: u16,
-    pub escape_owed: bool,
-}
-
-/// The source and the destination are where the next byte is read and where it lands.
-#[derive(Clone, Copy, Debug, PartialEq, Eq)]
-pub enum Status {
-    Idle,
-    General { left: u16 },
-    HBlank { left: u16, source: u16, destination: u16 },
-}
-
-/// What a bus call moved, in order, each pair with its byte.
-#[derive(Clone, Copy, Debug, PartialEq, Eq)]
-pub struct Moved {
-    pub pairs: [Option<(Pair, u8)>; 2],
-    pub set_up_cell: bool,
-}
 
 pub(crate) struct Record([u8; CALL_BYTES]);
 
@@ -101,7 +28,7 @@ impl Record {
         })
     }
     pub fn bits(mut self, bits: &[bool]) -> Self {
-        self.0[5] = bits.iter().rev().fold(0, |all, bit| all << 1 | *bit as u8);
+        self.0[5] = bits.iter().rev().fold(0, |all, bit| (all << 1) | u8::from(*bit));
         self
     }
     pub fn edge(mut self, edge: u64) -> Self {
@@ -136,6 +63,9 @@ impl Answer {
     }
     pub fn handed(&self) -> Option<Pair> {
         self.flag(0).then(|| Pair { source: self.word(1), destination: self.word(2) })
+    }
+    pub fn conflict(&self) -> Option<u16> {
+        self.flag(0).then(|| self.word(1))
     }
     pub fn cut(&self) -> CutOutcome {
         match self.word(0) {
