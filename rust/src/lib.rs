@@ -26,7 +26,8 @@
 //! assert_eq!(vram[..16], cartridge[..16]);
 //! assert_eq!(cgb.read(&mut wram, 0xFF55)?, 0xFF);
 //!
-//! // A refusal: the mode of a fall is 0 to 3.
+//! // The fields of the state, and a refusal: the mode of a fall is 0 to 3.
+//! assert_eq!(cgb.state().vram_dma.cursor.source, 16);
 //! let refused = cgb.vram_dma_fall_edge(Fall { mode: 4, ..Fall::default() });
 //! assert_eq!(refused, Err(Refusal::ModeAbove3));
 //! assert_eq!(Refusal::ModeAbove3.to_string(), "refused with 1: the mode is above 3");
@@ -43,14 +44,18 @@ mod answers;
 pub mod entry;
 mod inputs;
 pub mod kind;
+mod print;
 mod query;
 mod record;
 mod refusal;
+pub mod state;
 
 pub use answers::{Arbitration, Claim, CutOutcome, Moved, Pair, Status, Tally};
 pub use entry::{CARTRIDGE_BYTES, Memory, OAM_BYTES, VRAM_BYTES, WRAM_BYTES};
 pub use inputs::{Fall, SwitchInputs};
+pub use print::Changes;
 pub use refusal::Refusal;
+pub use state::State;
 
 use entry::{ANSWER_BYTES, STATE_BYTES};
 use record::{Answer, Record};
@@ -64,7 +69,7 @@ fn perform(state: &mut [u8; STATE_BYTES], call: Record, memory: Memory) -> Resul
 }
 
 /// The state: 248 bytes (docs/STATE-LAYOUT.md). A copy of the bytes is a copy of the state, and two states are equal
-/// exactly if their bytes are.
+/// exactly if their bytes are. `{:?}` prints its fields by name.
 #[derive(Clone, PartialEq, Eq, Hash)]
 pub struct Cgb([u8; Cgb::BYTES]);
 
@@ -89,6 +94,31 @@ impl Cgb {
     #[must_use]
     pub const fn bytes(&self) -> &[u8; Cgb::BYTES] {
         &self.0
+    }
+
+    /// Its fields. Bytes that no state has are read too: a flag is whether its byte is 1, a mode other than 0 and 1 is
+    /// HBlank, and a latency whose tag is not 0 is some.
+    #[must_use]
+    pub fn state(&self) -> State {
+        State::read(&self.0)
+    }
+
+    /// What has changed since another state, to be printed: a line for each field, as `vram_dma.arb.pend: false -> true`;
+    /// nothing where the two are equal.
+    ///
+    /// ```
+    /// # use cgb_vram_dma::{Cgb, Refusal, WRAM_BYTES};
+    /// # fn main() -> Result<(), Refusal> {
+    /// let mut cgb = Cgb::power_on(false);
+    /// let before = cgb.clone();
+    /// cgb.write(&mut [0; WRAM_BYTES], 0xFF51, 0x40, true)?;
+    /// assert_eq!(cgb.changes_since(&before).to_string(), "vram_dma.cursor.source: 0 -> 16384\n");
+    /// # Ok(())
+    /// # }
+    /// ```
+    #[must_use]
+    pub const fn changes_since<'a>(&'a self, before: &'a Self) -> Changes<'a> {
+        Changes { before, after: self }
     }
 
     /// A call that takes no memory.
@@ -158,8 +188,9 @@ impl Cgb {
         Ok(self.alone(record)?.cut())
     }
 
-    /// The LCD is turned off. A transfer that is armed, with bytes left, no block latched and `taken` clear, latches a
-    /// block of 16 bytes, ready after two falls. The idle claim and the relock debit are dropped in any case.
+    /// The LCD is turned off. A transfer that is armed, with bytes left, no block latched and
+    /// [`taken`](state::HblankBlock::taken) clear, latches a block of 16 bytes, ready after two falls. The idle claim
+    /// and the relock debit are dropped in any case.
     pub fn vram_dma_lcd_disabled(&mut self) -> Result<(), Refusal> {
         self.alone(Record::of(kind::LCD_OFF)).map(|_| ())
     }

@@ -104,6 +104,37 @@ fn k2_hblank_and_k6_cut() {
     }
 }
 
+/// K2 by the state's fields: "a pend stands", and a commit "sets block 16 and raises granted".
+#[test]
+fn k2_by_the_fields() {
+    let mut b = Bench::new(false);
+    b.write(0xFF55, 0x80);
+    b.fall(3);
+    assert!(!b.cgb.state().vram_dma.arb.pend);
+    b.fall(0);
+    let pends = b.cgb.state().vram_dma;
+    assert_eq!((pends.arb.pend, pends.block.remaining, pends.arb.granted_ahead), (true, 0, 0));
+    assert!(b.cgb.vram_dma_fall_edge(Fall { edge: 1234, ..Fall::default() }).unwrap().committed);
+    let commits = b.cgb.state().vram_dma;
+    assert_eq!((commits.arb.pend, commits.block.remaining, commits.arb.granted_ahead), (false, 16, 1));
+    assert_eq!((commits.block.start_edge, commits.block.setup_cells, commits.cursor.remaining), (1234, 1, 16));
+}
+
+/// "left = ((v mod 128) + 1) × 16 .. Bit 7 set arms HBlank"; "Bit 7 clear while armed only disarms, storing left".
+#[test]
+fn k3_by_the_changes() {
+    let mut b = Bench::new(false);
+    let before = b.cgb.clone();
+    b.write(0xFF55, 0x83);
+    let armed = b.cgb.clone();
+    let lines = "vram_dma.cursor.mode: Idle -> HBlank\nvram_dma.cursor.remaining: 0 -> 64\n\
+                 vram_dma.arb.armed_this_fall: false -> true\n";
+    assert_eq!(armed.changes_since(&before).to_string(), lines);
+    b.write(0xFF55, 0x00);
+    let lines = "vram_dma.cursor.mode: HBlank -> Idle\nvram_dma.cursor.remaining: 64 -> 16\n";
+    assert_eq!(b.cgb.changes_since(&armed).to_string(), lines);
+}
+
 #[test]
 fn k3_cancel() {
     let mut b = Bench::new(false);
@@ -158,7 +189,7 @@ fn refusals_have_the_paper_s_numbers_and_change_nothing() {
     assert_eq!(b.cgb.read(&mut b.wram, 0xFF68), Err(Refusal::AddressNotInMap));
     assert_eq!(b.cgb.attempt_speed_switch(switch(None, true)), Err(Refusal::SwitchUnderHold));
     assert_eq!(b.cgb.attempt_speed_switch(switch(None, false)), Err(Refusal::SpeedNotArmed));
-    assert!(b.cgb == before);
+    assert_eq!(b.cgb, before);
     b.switch(None);
     assert_eq!(b.cgb.attempt_speed_switch(switch(None, false)), Err(Refusal::BlackoutRunning));
     assert_eq!(Cgb::from_bytes([0xFF; Cgb::BYTES]).tally(), Err(Refusal::NoState));
@@ -173,7 +204,7 @@ fn a_phase_that_is_none_of_0_to_3_is_refused() {
     let at = |dot_phase| SwitchInputs { dot_phase: Some(dot_phase), ..SwitchInputs::default() };
     for phase in 4..=255 {
         assert_eq!(b.cgb.attempt_speed_switch(at(phase)), Err(Refusal::DotPhaseAbove4), "{phase}");
-        assert!(b.cgb == before);
+        assert_eq!(b.cgb, before);
     }
     for phase in 0..=3 {
         assert_eq!(before.clone().attempt_speed_switch(at(phase)), Ok(CutOutcome::None), "{phase}");
