@@ -1,7 +1,7 @@
 //! Document 01's cases by its numbers, through the wrapper: what it holds by hand of the layouts must be the library's.
 use cgb_vram_dma::{
-    CARTRIDGE_BYTES, Cgb, CutOutcome, Fall, Memory, Moved, OAM_BYTES, Pair, Refusal, Status, SwitchInputs, VRAM_BYTES,
-    WRAM_BYTES,
+    Arbitration, CARTRIDGE_BYTES, Cgb, CutOutcome, Fall, Memory, Moved, OAM_BYTES, Pair, Refusal, Status, SwitchInputs,
+    VRAM_BYTES, WRAM_BYTES,
 };
 
 struct Bench {
@@ -167,6 +167,43 @@ fn k7_blackouts() {
         assert_eq!(b.cgb.double_speed(), Ok(double));
         assert!(b.lasts(edges), "{edges}");
     }
+}
+
+/// Where the block commits at edge 100, OAM DMA's edge decides which of the two bytes is deposited.
+#[test]
+fn k8_deposits() {
+    for (block, oam, second) in [(100, 98, true), (100, 92, true), (100, 96, false), (100, 94, false), (0, 0, true)] {
+        let mut b = Bench::new(false);
+        b.write(0xFF55, 0x80);
+        b.fall(3);
+        let hblank = Fall { edge: block, ..Fall::default() };
+        let claims: Vec<bool> = (0..3).map(|_| b.cgb.vram_dma_fall_edge(hblank).unwrap().committed).collect();
+        assert_eq!(claims, [false, true, false]);
+        assert!(b.bus().set_up_cell);
+        b.cgb.vram_dma_fall_edge(hblank).unwrap();
+        assert_eq!(b.cgb.vram_dma_arbitrate_oam(true, false, true), Ok(Arbitration::Contended));
+        let Bench { cgb, cartridge, wram, vram, oam: memory } = &mut b;
+        let lent = Memory { cartridge, wram, vram, oam: memory };
+        assert_eq!(cgb.vram_dma_commit_bytes(lent, true, false, oam).unwrap().pairs.into_iter().flatten().count(), 2);
+        let mut expected = vec![0; OAM_BYTES];
+        let source = usize::from(second);
+        expected[source] = b.cartridge[source];
+        assert_eq!(b.oam, expected, "block edge {block}, OAM edge {oam}");
+    }
+}
+
+/// Rounds of six falls, the CPU halted in the second to the fourth: the fifth fall of round 256 is refused with 14.
+#[test]
+fn k9_granted_overflows() {
+    let mut b = Bench::new(false);
+    b.write(0xFF55, 0xFF);
+    let falls = [(false, 3), (true, 3), (true, 3), (true, 0), (false, 0), (false, 0)];
+    let mut fall = |k: usize| {
+        let (halted, mode) = falls[k % 6];
+        b.cgb.vram_dma_fall_edge(Fall { mode, halted, ..Fall::default() })
+    };
+    let first = (0..257 * 6).find_map(|k| fall(k).err().map(|refusal| (k / 6 + 1, k % 6 + 1, refusal)));
+    assert_eq!(first, Some((256, 5, Refusal::GrantedFull)));
 }
 
 #[test]
