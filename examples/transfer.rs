@@ -1,7 +1,7 @@
 //! A General transfer of 16 bytes, from the cartridge to VRAM, printed as it moves (docs/LIBRARY.md).
 //!
-//!     rt staticlib c_api
-//!     cd rust && cargo run --release --offline --example transfer
+//!     sh tools/library
+//!     (cd rust && cargo run --release --offline --example transfer)
 use cgb_vram_dma::{CARTRIDGE_BYTES, Cgb, Fall, Memory, OAM_BYTES, Refusal, Status, VRAM_BYTES, WRAM_BYTES};
 
 fn main() -> Result<(), Refusal> {
