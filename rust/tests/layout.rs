@@ -21,9 +21,9 @@ fn quoted(text: &str) -> Option<&str> {
     text.split('`').nth(1)
 }
 
-/// The rows in the document's order, without the spare bytes.
+/// The rows in the document's order, which leave no gap, without the spare bytes.
 fn rows() -> Vec<Row> {
-    let (mut rows, mut part, mut values) = (Vec::new(), String::new(), 0);
+    let (mut rows, mut part, mut values, mut end) = (Vec::new(), String::new(), 0, 0);
     for line in LAYOUT.lines() {
         let cells = cells(line);
         if let Some(heading) = line.strip_prefix("## ") {
@@ -31,13 +31,15 @@ fn rows() -> Vec<Row> {
         } else if cells[0] == "offset" {
             assert_eq!(cells[..3], ["offset", "size", "field"]);
             values = cells.iter().position(|cell| *cell == "values").unwrap();
-        } else if let Ok(offset) = cells[0].parse() {
-            let Some(name) = quoted(cells[2]) else { continue };
+        } else if let Ok(offset) = cells[0].parse::<usize>() {
             let size = cells[1].parse().unwrap();
+            assert_eq!(offset, end, "{line}");
+            end = offset + size;
+            let Some(name) = quoted(cells[2]) else { continue };
             rows.push(Row { offset, size, field: format!("{part}{name}"), values: cells[values] });
         }
     }
-    assert_eq!(rows.iter().map(|row| row.size).sum::<usize>(), 91);
+    assert_eq!(end, Cgb::BYTES);
     rows
 }
 
