@@ -56,20 +56,24 @@ refusals! {
     ModeAbove3 = 1, "the mode is above 3";
     /// The lengths are [`CARTRIDGE_BYTES`](crate::CARTRIDGE_BYTES), [`WRAM_BYTES`](crate::WRAM_BYTES),
     /// [`VRAM_BYTES`](crate::VRAM_BYTES) and [`OAM_BYTES`](crate::OAM_BYTES).
-    SliceLength = 2, "a lent slice has another length than the call wants";
+    SliceLength = 2, "a slice has another length than the call wants";
     /// In a record 4 stands for none, hence the name; a method takes `None`, and refuses `Some(4)` too.
-    DotPhaseAbove4 = 3, "the dot phase is neither 0 to 3 nor none";
-    AddressNotInMap = 4, "the address is not in the map of a read or a write";
-    SwitchUnderHold = 5, "a speed switch is attempted while the CPU is held";
+    DotPhaseAbove4 = 3, "the dot phase is none of 0 to 3";
+    /// A read and a write have the same map.
+    AddressNotInMap = 4, "the address is not in the call's map";
+    SwitchUnderHold = 5, "a switch under hold";
     /// No method makes such a record; [`entry::perform`](crate::entry::perform) may be given one.
-    NoCall = 6, "the record is of no call";
+    NoCall = 6, "the record is no call's";
     /// No run leaves a quota above 2, a block above 16, more than 2,048 bytes left, FF70 above 7, FF4F's bank above 1,
     /// or no byte left in a mode other than Idle.
-    NoState = 7, "the bytes are no state's, or the state is one that no run leaves";
-    BlackoutRunning = 11, "a speed switch is attempted while the blackout of the last one runs";
-    SpeedNotArmed = 12, "a speed switch is attempted and KEY1 (FF4D bit 0) is not armed";
-    BlockReady = 13, "a speed switch to single speed is attempted while a latched block is ready";
-    GrantedFull = 14, "the fall would commit a block that is not counted yet, and 255 blocks are granted already";
+    NoState = 7, "the bytes are no state's, or no run leaves this state";
+    BlackoutRunning = 11, "a switch while the blackout runs";
+    /// KEY1 is FF4D; its bit 0 arms a switch.
+    SpeedNotArmed = 12, "a switch while KEY1 is not armed";
+    /// Downward is to single speed.
+    BlockReady = 13, "a switch downward with a ready block";
+    /// Granted is [`granted_ahead`](crate::state::HaltArbiter::granted_ahead).
+    GrantedFull = 14, "a commit not already counted would raise granted from 255";
 }
 
 impl fmt::Display for Refusal {

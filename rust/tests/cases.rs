@@ -264,6 +264,5 @@ fn a_refusal_says_its_number() {
         assert_eq!(Refusal::NAMED.contains(&refusal), numbers.contains(&number));
         assert!(refusal.to_string().starts_with(&format!("refused with {number}: ")), "{refusal}");
     }
-    let text = "refused with 12: a speed switch is attempted and KEY1 (FF4D bit 0) is not armed";
-    assert_eq!(Refusal::SpeedNotArmed.to_string(), text);
+    assert_eq!(Refusal::SpeedNotArmed.to_string(), "refused with 12: a switch while KEY1 is not armed");
 }
