@@ -463,67 +463,74 @@ static inline uint8_t cgb_instruction_retired(uint8_t state[CGB_STATE_BYTES], ui
 {
     return cgb_alone(state, answer, CGB_KIND_INSTRUCTION_RETIRED, 0, 0, 0, 0);
 }
-/* tally -> source, destination, left, escape owed */
+/* tally -> source, destination register, left, escape owed. The engine's registers as they run, what is left, and
+ * whether a cut owes a byte. */
 static inline uint8_t cgb_tally(uint8_t state[CGB_STATE_BYTES], uint8_t answer[CGB_ANSWER_BYTES])
 {
     return cgb_alone(state, answer, CGB_KIND_TALLY, 0, 0, 0, 0);
 }
-/* status -> 0 Idle; 1 General, left; 2 HBlank, left, source, where the next byte lands */
+/* status -> 0 Idle; 1 General, left; 2 HBlank, left, source, where the next byte lands. The transfer's mode, with
+ * what belongs to it. */
 static inline uint8_t cgb_status(uint8_t state[CGB_STATE_BYTES], uint8_t answer[CGB_ANSWER_BYTES])
 {
     return cgb_alone(state, answer, CGB_KIND_STATUS, 0, 0, 0, 0);
 }
-/* claim -> committed, standing */
+/* claim -> committed, standing. The claim of the last fall that committed a block; both flags are false before the
+ * first. */
 static inline uint8_t cgb_claim(uint8_t state[CGB_STATE_BYTES], uint8_t answer[CGB_ANSWER_BYTES])
 {
     return cgb_alone(state, answer, CGB_KIND_CLAIM, 0, 0, 0, 0);
 }
-/* park waits for fetch -> a flag */
+/* park waits for fetch -> a flag. Whether the park mark stands: a commit sets it where the CPU runs, and ran at the
+ * fall before, and the pend is no arm strobe's, else clears it; an instruction that retires and the last pair of a
+ * block clear it. */
 static inline uint8_t cgb_park_waits_for_fetch(uint8_t state[CGB_STATE_BYTES], uint8_t answer[CGB_ANSWER_BYTES])
 {
     return cgb_alone(state, answer, CGB_KIND_PARK_WAITS_FOR_FETCH, 0, 0, 0, 0);
 }
-/* request standing -> a flag */
+/* request standing -> a flag. Whether a pend stands, or bytes are left in a latched block and in the transfer. */
 static inline uint8_t cgb_request_standing(uint8_t state[CGB_STATE_BYTES], uint8_t answer[CGB_ANSWER_BYTES])
 {
     return cgb_alone(state, answer, CGB_KIND_REQUEST_STANDING, 0, 0, 0, 0);
 }
-/* holds CPU -> a flag */
+/* holds CPU -> a flag. Whether a General transfer has bytes left. */
 static inline uint8_t cgb_holds_cpu(uint8_t state[CGB_STATE_BYTES], uint8_t answer[CGB_ANSWER_BYTES])
 {
     return cgb_alone(state, answer, CGB_KIND_HOLDS_CPU, 0, 0, 0, 0);
 }
-/* seizes bus -> a flag */
+/* seizes bus -> a flag. Whether the engine seizes the bus: no block waits to become ready, and a set-up cell stands
+ * or bytes are left in a latched block and in the transfer. */
 static inline uint8_t cgb_seizes_bus(uint8_t state[CGB_STATE_BYTES], uint8_t answer[CGB_ANSWER_BYTES])
 {
     return cgb_alone(state, answer, CGB_KIND_SEIZES_BUS, 0, 0, 0, 0);
 }
-/* switch in progress -> a flag */
+/* switch in progress -> a flag. Whether the blackout of a speed switch runs. */
 static inline uint8_t cgb_switch_in_progress(uint8_t state[CGB_STATE_BYTES], uint8_t answer[CGB_ANSWER_BYTES])
 {
     return cgb_alone(state, answer, CGB_KIND_SWITCH_IN_PROGRESS, 0, 0, 0, 0);
 }
-/* divider active -> a flag */
+/* divider active -> a flag. Whether the divider runs in a blackout: more than 5 edges of it are left at double speed,
+ * more than 2 at single. */
 static inline uint8_t cgb_divider_active(uint8_t state[CGB_STATE_BYTES], uint8_t answer[CGB_ANSWER_BYTES])
 {
     return cgb_alone(state, answer, CGB_KIND_DIVIDER_ACTIVE, 0, 0, 0, 0);
 }
-/* double speed -> a flag */
+/* double speed -> a flag. The speed bit, FF4D bit 7: a speed switch changes it at once, before its blackout. */
 static inline uint8_t cgb_double_speed(uint8_t state[CGB_STATE_BYTES], uint8_t answer[CGB_ANSWER_BYTES])
 {
     return cgb_alone(state, answer, CGB_KIND_DOUBLE_SPEED, 0, 0, 0, 0);
 }
-/* CPU steps per dot -> a byte */
+/* CPU steps per dot -> a byte. The CPU's steps in a dot: 2 at double speed, 1 at single. */
 static inline uint8_t cgb_cpu_steps_per_dot(uint8_t state[CGB_STATE_BYTES], uint8_t answer[CGB_ANSWER_BYTES])
 {
     return cgb_alone(state, answer, CGB_KIND_CPU_STEPS_PER_DOT, 0, 0, 0, 0);
 }
-/* WRAM bank -> a byte */
+/* WRAM bank -> a byte. The bank of WRAM at D000h: FF70's, and 1 where that is 0. */
 static inline uint8_t cgb_wram_bank(uint8_t state[CGB_STATE_BYTES], uint8_t answer[CGB_ANSWER_BYTES])
 {
     return cgb_alone(state, answer, CGB_KIND_WRAM_BANK, 0, 0, 0, 0);
 }
-/* SVBK register -> a byte */
+/* SVBK register -> a byte. FF70 bits 0 to 2 as written. */
 static inline uint8_t cgb_svbk_register(uint8_t state[CGB_STATE_BYTES], uint8_t answer[CGB_ANSWER_BYTES])
 {
     return cgb_alone(state, answer, CGB_KIND_SVBK_REGISTER, 0, 0, 0, 0);
