@@ -122,7 +122,7 @@ pub fn command() {
         Some("compare") => compare::run(&words[1..], usage),
         #[cfg(not(feature = "port"))]
         Some("compare") => {
-            eprintln!("compare: built without the port: rt staticlib c_api, and build again with --features port");
+            eprintln!("compare: built without the port: sh tools/library, and build again with --features port");
             std::process::exit(2);
         }
         _ => {
