@@ -170,7 +170,7 @@ enum {
     /* calls.txt: begin refusals; written by tools/calls */
     CGB_REFUSED_MODE       = 1, /* the mode is above 3 */
     CGB_REFUSED_LENGTH     = 2, /* a slice has another length than the call wants */
-    CGB_REFUSED_PHASE      = 3, /* the dot phase is above 4 */
+    CGB_REFUSED_PHASE      = 3, /* the dot phase is neither 0 to 3 nor none */
     CGB_REFUSED_ADDRESS    = 4, /* the address is not in the call's map */
     CGB_REFUSED_HELD       = 5, /* a switch under hold */
     CGB_REFUSED_RECORD     = 6, /* the record is no call's */
@@ -189,7 +189,7 @@ static inline const char *cgb_refusal_text(uint8_t refusal)
     /* calls.txt: begin texts; written by tools/calls */
     case CGB_REFUSED_MODE: return "the mode is above 3";
     case CGB_REFUSED_LENGTH: return "a slice has another length than the call wants";
-    case CGB_REFUSED_PHASE: return "the dot phase is above 4";
+    case CGB_REFUSED_PHASE: return "the dot phase is neither 0 to 3 nor none";
     case CGB_REFUSED_ADDRESS: return "the address is not in the call's map";
     case CGB_REFUSED_HELD: return "a switch under hold";
     case CGB_REFUSED_RECORD: return "the record is no call's";

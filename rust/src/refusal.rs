@@ -58,7 +58,7 @@ refusals! {
     /// [`VRAM_BYTES`](crate::VRAM_BYTES) and [`OAM_BYTES`](crate::OAM_BYTES).
     SliceLength = 2, "a slice has another length than the call wants";
     /// In a record 4 stands for none, hence the name; a method takes `None`, and refuses `Some(4)` too.
-    DotPhaseAbove4 = 3, "the dot phase is none of 0 to 3";
+    DotPhaseAbove4 = 3, "the dot phase is neither 0 to 3 nor none";
     /// A read and a write have the same map.
     AddressNotInMap = 4, "the address is not in the call's map";
     SwitchUnderHold = 5, "a switch under hold";
