@@ -1,7 +1,10 @@
 // Replays records of 16 bytes from standard input, from power-on without compat, and writes a line for each
 // (document 01, section 6): record from 0, refusal or 0, pairs, left, FF55 in two capitals. It streams:
-// input and output pass through buffers of fixed size.
-ghost use Prim.Native.Nat.{_<_, _≤_};
+// input and output pass through buffers of fixed size, and each read's lines are written before the next read.
+ghost use Prim.Native.Nat.{_-_, _<_, _≤_, _*_, _/_};
+ghost use mathlib.Core.Bool.{cond};
+ghost use mathlib.Core.Path.{_≡_};
+ghost use lib.ListN.{length, take, drop};
 use console::Cgb;
 use libc::STDIN_FILENO;
 use libc::STDOUT_FILENO;
@@ -18,17 +21,13 @@ struct Replay {
     number: u64,
 }
 
+// After a read: the replay; where in the buffer the bytes of an incomplete record wait, from one place up to another; and how many
+// reads may still come, none after the end of the input.
 struct Turned {
     replay: Replay,
-    more: bool,
-}
-
-// The place past the record at i.
-fn past(i: usize, end: usize) -> usize
-    requires { ⌜ i < end ⌝ }
-    ensures { λ r. ⌜ (i < r) × (r ≤ end) ⌝ }
-{
-    if end - i < 16 { end } else { i + 16 }
+    from: usize,
+    stop: usize,
+    turns: u64,
 }
 
 fn flush(out: &[u8], at: usize) {
@@ -38,7 +37,9 @@ fn flush(out: &[u8], at: usize) {
 }
 
 // The records of one part of the input, with their lines written.
-fn feed(r: Replay, part: &[u8], out: &mut [u8], wram: &mut [u8]) -> Replay {
+fn feed(r: Replay, part: &[u8], out: &mut [u8], wram: &mut [u8]) -> Replay
+    requires { ⌜ length (now part) ≤ 65536 ⌝ }
+{
     let mut state = r.state;
     let mut number = r.number;
     let mut at: usize = 0;
@@ -52,7 +53,7 @@ fn feed(r: Replay, part: &[u8], out: &mut [u8], wram: &mut [u8]) -> Replay {
             flush(out, at);
             at = 0;
         }
-        i = past(i, part.len());
+        i += 16;
     }
     flush(out, at);
     Replay {
@@ -61,13 +62,75 @@ fn feed(r: Replay, part: &[u8], out: &mut [u8], wram: &mut [u8]) -> Replay {
     }
 }
 
-// One turn: a buffer of input, or the end of it.
-fn turn(r: Replay, buf: &mut [u8], out: &mut [u8], wram: &mut [u8]) -> Turned {
-    let n = io::read_full(STDIN_FILENO, buf);
-    let replay = feed(r, &buf[..n], out, wram);
+// One read, behind the bytes that wait at the front: how many bytes are there then. If no more than waited, the input ended or
+// cannot be read.
+fn fill(buf: &mut [u8], waiting: usize) -> usize
+    requires { ⌜ waiting < length (now buf) ⌝ }
+    ensures { λ r. ⌜ (waiting ≤ r) × (r ≤ length (now (buf .exit))) ⌝ }
+    ensures { λ _. ⌜ take waiting (now (buf .exit)) ≡ take waiting (now (buf .entry)) ⌝ }
+{
+    let room = &mut buf[waiting..];
+    let got = libc::read(STDIN_FILENO, room);
+    waiting + io::count(got, room)
+}
+
+// How many of the n bytes are performed now: the whole records, and at the input's end what is left over as well.
+fn due(n: usize, more: bool) -> usize
+    ensures { λ r. ⌜ (r ≤ n) × (n - r < 16) ⌝ }
+    ensures { λ r. ⌜ r ≡ cond more (n / 16 * 16) n ⌝ }
+{
+    if more { n / 16 * 16 } else { n }
+}
+
+// The bytes from one place up to another moved to the front: how many they are.
+fn to_front(buf: &mut [u8], from: usize, end: usize) -> usize
+    requires { ⌜ (from ≤ end) × (end ≤ length (now buf)) ⌝ }
+    ensures { λ r. ⌜ r ≡ end - from ⌝ }
+    ensures { λ r. ⌜ take r (now (buf .exit)) ≡ take r (drop from (now (buf .entry))) ⌝ }
+{
+    let n = end - from;
+    let mut i: usize = 0;
+    while i < n {
+        buf[i] = buf[from + i];
+        i += 1;
+    }
+    n
+}
+
+// How many reads may still come after this one.
+fn fewer(turns: u64, more: bool) -> u64
+    requires { ⌜ 0 < turns ⌝ }
+    ensures { λ r. ⌜ r < turns ⌝ }
+{
+    if more { turns - 1 } else { 0 }
+}
+
+// One turn: what waits goes to the front, and what one read brings is performed, or at the end of the input what waited.
+fn turn(
+    r: Replay,
+    from: usize,
+    stop: usize,
+    turns: u64,
+    buf: &mut [u8],
+    out: &mut [u8],
+    wram: &mut [u8],
+) -> Turned
+    requires { ⌜ (length (now buf) ≡ 65536) × (0 < turns) ⌝ }
+    requires { ⌜ (from ≤ stop) × (stop ≤ length (now buf)) × (stop - from < 16) ⌝ }
+    ensures { λ r. ⌜ (r .from ≤ r .stop) × (r .stop ≤ length (now (buf .exit))) × (r .stop - r .from < 16) ⌝ }
+    ensures { λ r. ⌜ r .turns < turns ⌝ }
+{
+    let waiting = to_front(buf, from, stop);
+    let n = fill(buf, waiting);
+    let more = n > waiting;
+    let end = due(n, more);
+    let later = fewer(turns, more);
+    let replay = feed(r, &buf[0..end], out, wram);
     Turned {
         replay: replay,
-        more: n == 65536,
+        from: end,
+        stop: n,
+        turns: later,
     }
 }
 
@@ -79,13 +142,14 @@ fn main() {
         state: engine::power_on(false),
         number: 0,
     };
+    let mut from: usize = 0;
+    let mut stop: usize = 0;
     let mut turns = u64::MAX;
     while turns > 0 {
-        let t = turn(replay, &mut buf, &mut out, &mut wram);
+        let t = turn(replay, from, stop, turns, &mut buf, &mut out, &mut wram);
         replay = t.replay;
-        if !t.more {
-            break;
-        }
-        turns -= 1;
+        from = t.from;
+        stop = t.stop;
+        turns = t.turns;
     }
 }

@@ -1,13 +1,13 @@
 -- `feed` stays inside its slices and ends. Assumes nothing.
 use borrow.Author.Needs.{needs}
-use Prim.Native.Nat.{_-_, _≤_}
+use Prim.Native.Nat.{_-_}
 use mathlib.Core.Path.{_≡_}
 use lib.ListN.{length}
 use Rattle.replay.proofs.feed.Statement.{statement}
 use Rattle.replay.proofs.feed.Tie as tie
 
 abbrev Inv-loop : tie.InvT-loop
-Inv-loop part out₀ wram₀ state₀ number₀ at₀ i₀ out wram state number at i = (length out ≡ length out₀) × (length wram ≡ length wram₀) × (i ≤ length part)
+Inv-loop part out₀ wram₀ state₀ number₀ at₀ i₀ out wram state number at i = (length out ≡ length out₀) × (length wram ≡ length wram₀)
 
 abbrev μ-loop : tie.MeasureT-loop
 μ-loop part out₀ wram₀ state₀ number₀ at₀ i₀ out wram state number at i = length part - i
@@ -39,8 +39,8 @@ wrapping-add-u64-requires c κs = search needs
 flush-requires : tie.Need-flush-requires Inv-loop μ-loop
 flush-requires c κs = search needs
 
-past-requires : tie.Need-past-requires Inv-loop μ-loop
-past-requires c κs = search needs
+add-i : tie.Need-add-i Inv-loop μ-loop
+add-i c = search needs
 
 loop-less : tie.Need-loop-less Inv-loop μ-loop
 loop-less c = search needs
@@ -75,7 +75,7 @@ feed-spec =
     put-line-requires
     wrapping-add-u64-requires
     flush-requires
-    past-requires
+    add-i
     loop-less
     loop-again
     flush-requires-2

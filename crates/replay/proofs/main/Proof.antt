@@ -1,15 +1,17 @@
 -- `main` stays inside its slices and ends. Assumes nothing.
 use borrow.Author.Needs.{needs}
 use mathlib.Core.Path.{_≡_}
+use Prim.Native.Nat.{_<_, _≤_, _-_}
 use lib.ListN.{length}
 use Rattle.replay.proofs.main.Statement.{statement}
 use Rattle.replay.proofs.main.Tie as tie
 
 abbrev Inv-loop : tie.InvT-loop
-Inv-loop buf₀ out₀ wram₀ replay₀ turns₀ buf out wram replay turns = (length buf ≡ 65536) × (length out ≡ 65536) × (length wram ≡ 32768)
+Inv-loop buf₀ out₀ wram₀ replay₀ from₀ stop₀ turns₀ buf out wram replay from stop turns =
+    (length buf ≡ 65536) × (length out ≡ 65536) × (length wram ≡ 32768) × (from ≤ stop) × (stop ≤ 65536) × (stop - from < 16)
 
 abbrev μ-loop : tie.MeasureT-loop
-μ-loop buf₀ out₀ wram₀ replay₀ turns₀ buf out wram replay turns = turns
+μ-loop buf₀ out₀ wram₀ replay₀ from₀ stop₀ turns₀ buf out wram replay from stop turns = turns
 
 large-buffer-requires : tie.Need-large-buffer-requires Inv-loop μ-loop
 large-buffer-requires c κs = search needs
@@ -35,9 +37,6 @@ slice-aggregate-turn-3 c = search needs
 turn-requires : tie.Need-turn-requires Inv-loop μ-loop
 turn-requires c κs = search needs
 
-sub-turns : tie.Need-sub-turns Inv-loop μ-loop
-sub-turns c = search needs
-
 loop-less : tie.Need-loop-less Inv-loop μ-loop
 loop-less c = search needs
 
@@ -46,9 +45,6 @@ loop-again c = search needs
 
 returns : tie.Need-returns Inv-loop μ-loop
 returns c = search needs
-
-returns-2 : tie.Need-returns-2 Inv-loop μ-loop
-returns-2 c = search needs
 
 pub main-spec : {M : Type 1} → statement M
 main-spec =
@@ -64,8 +60,6 @@ main-spec =
     slice-aggregate-turn-2
     slice-aggregate-turn-3
     turn-requires
-    sub-turns
     loop-less
     loop-again
-    returns
-    returns-2)
+    returns)
