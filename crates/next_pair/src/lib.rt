@@ -41,10 +41,9 @@ pub fn next_byte(d: VramDma) -> NextByte
             dma: dma,
         };
     }
-    let same = rebuild::dma(d);
     NextByte {
         answer: NextAnswer::None,
-        dma: same,
+        dma: d,
     }
 }
 

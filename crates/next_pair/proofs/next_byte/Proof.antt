@@ -9,7 +9,7 @@ returns c = rw (← c .before .before .before .moving .ensures, c .before .befor
 
 returns-2 : tie.Need-returns-2
 unfolding nextByteOf
-returns-2 c = rw (← c .before .before .moving .ensures, c .before .if1 .left, c .dma .ensures)
+returns-2 c = rw (← c .before .moving .ensures, c .if1 .left)
 
 pub next-byte-spec : {M : Type 1} → statement M
-next-byte-spec = tie.close (tie.spec (λ _ _. tt) (λ _ _. tt) (λ _ _. tt) returns (λ _ _. tt) returns-2)
+next-byte-spec = tie.close (tie.spec (λ _ _. tt) (λ _ _. tt) (λ _ _. tt) returns returns-2)
