@@ -29,7 +29,7 @@ extern "C" {
 #define CGB_CALL_BYTES 16
 #define CGB_ANSWER_BYTES 24
 
-/* The lengths of lent memory. The bus call wants all four, reads and writes WRAM's alone; another length gets 2. */
+/* The lengths of lent memory. A bus call wants all four, the calls read and write WRAM's alone; another length gets 2. */
 #define CGB_CARTRIDGE_BYTES 40960 /* addresses below 8000h, then A000h to BFFFh from 8000h on */
 #define CGB_WRAM_BYTES 32768      /* eight banks of 4096 */
 #define CGB_VRAM_BYTES 16384      /* two banks of 8192 */

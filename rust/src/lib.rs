@@ -171,7 +171,7 @@ impl Cgb {
 
     /// The next pair, if quota is left and the engine moves: a General transfer, or a latched block that is ready, with
     /// bytes left in the transfer. Else none, and nothing changes. The byte itself is the caller's to move; the bus
-    /// call moves it in lent memory.
+    /// call moves it in lent memory. A set-up cell is neither looked at nor taken: only a held bus call takes it.
     pub fn next_byte(&mut self) -> Result<Option<Pair>, Refusal> {
         Ok(self.alone(Record::of(kind::NEXT_PAIR))?.handed())
     }
@@ -196,7 +196,8 @@ impl Cgb {
     }
 
     /// The byte that a cut owes: one pair, if an escape is owed and the engine moves, whatever quota stood; no quota is
-    /// left after it. Else none, and nothing changes. The byte itself is the caller's to move.
+    /// left after it. Else none, and nothing changes. The byte itself is the caller's to move. A set-up cell is neither
+    /// looked at nor taken.
     pub fn vram_dma_drain_escape(&mut self) -> Result<Option<Pair>, Refusal> {
         Ok(self.alone(Record::of(kind::ESCAPE_DRAIN))?.handed())
     }
