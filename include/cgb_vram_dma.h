@@ -6,7 +6,8 @@
  * The library is two functions, cgb_power_on and cgb_perform; they are what is proved. All else is in this file alone: names for
  * the bytes that they take and leave, and for each call a function of one line that writes its 16 bytes and performs them. Every
  * layout is a definition that the library is proved to meet: crates/c_api/specs, crates/record/specs, crates/codec/specs.
- * Numbers of several bytes are little-endian. C99 and later, C++11 and later. docs/LIBRARY.md leads through it. */
+ * Numbers of several bytes are little-endian. C99 and later, C++11 and later. docs/LIBRARY.md leads through it,
+ * docs/DRIVING.md says who calls what when. */
 #ifndef CGB_VRAM_DMA_H
 #define CGB_VRAM_DMA_H
 

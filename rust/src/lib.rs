@@ -4,6 +4,7 @@
 //! then neither the state nor lent memory has changed. Every call is refused with 7 where the bytes are no state's or
 //! the state fails one of six tests ([`Refusal::NoState`]); what else refuses it is said at the method, in the order of
 //! the tests. A query takes `&self`, and 7 alone refuses it. No call panics, and none keeps what it was lent.
+//! Who calls what when (a fall for each dot, a bus call at the end of each M-cycle) is docs/DRIVING.md of the repository.
 //!
 //! A General transfer of 16 bytes from the cartridge into VRAM, in document 01's rounds of a fall and a held bus call
 //! (K1):
