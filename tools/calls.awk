@@ -29,10 +29,11 @@ function camel(s,    parts, n, i, r) {
     for (i = 2; i <= n; i++) r = r capital(parts[i])
     return r
 }
+function answer_type(a) { return capital(camel(a)) "Answer" }
 function numbered(i) { return i == 1 ? "" : "-" i }
 function nth(i) { return i == 1 ? "" : i }
 # what a query's answer is, by its definition
-function definition(a) { return (a "CallOf") in home ? a "CallOf" : a "Of" }
+function definition(a) { a = camel(a); return (a "CallOf") in home ? a "CallOf" : a "Of" }
 function defined(k) { return definition(answer[k]) " s" (value[k] == "" ? "" : " (" value[k] " s)") }
 function out(file) { to = made file; return to }
 function folder(file) { sub(/\/[^\/]*$/, "", file); system("mkdir -p '" made file "'") }
@@ -58,7 +59,7 @@ function use_lines(module, names,    list, n, i, line) {
     print "use " module ".{" line "}" > to
 }
 function answers_of(suffix,    i, r, seen) {
-    for (i = 1; i <= queries; i++) if (!(answer[query[i]] in seen)) { seen[answer[query[i]]]; r = r " " answer[query[i]] suffix }
+    for (i = 1; i <= queries; i++) if (!(answer[query[i]] in seen)) { seen[answer[query[i]]]; r = r " " (suffix == "" ? answer[query[i]] : camel(answer[query[i]]) suffix) }
     return substr(r, 2)
 }
 function definitions_of(    i, list, n, r) {
@@ -109,7 +110,7 @@ function ask_spec(    i, k) {
     print "use Rattle.call.specs.declared.query.Query.the-variants as query" > to
     print "" > to
     print "unfoldable pub askedOf : Cgb → Query → Said" > to
-    for (i = 1; i <= queries; i++) { k = query[i]; print "askedOf s query." variant[k] " = " answer[k] "Says (" defined(k) ")" > to }
+    for (i = 1; i <= queries; i++) { k = query[i]; print "askedOf s query." variant[k] " = " camel(answer[k]) "Says (" defined(k) ")" > to }
     close(to)
     out("crates/ask/specs/Lib.antt")
     print "pub mod Ask" > to
@@ -131,7 +132,7 @@ function ask_proof(    i, k, n) {
         print "unfolding askedOf" > to
         print "returns" numbered(i) " c =" > to
         print "    rw (" > to
-        print "      c .of-" answer[k] nth(n[answer[k]]) " .ensures," > to
+        print "      c .of-" hyphens(answer[k]) nth(n[answer[k]]) " .ensures," > to
         print "      c .before ." hyphens(fn[k]) " .ensures .is," > to
         print "      c .before .before .enum-told" nth(i) " .given .1," > to
         print "    )" > to
@@ -151,10 +152,10 @@ function ask_proof(    i, k, n) {
 }
 
 # of one query: 7 or its values
-function said_by(k) { return "says-number " answer[k] "Says " answer[k] ".Refused (stateRefusal s) _ _ refl (λ n. refl)" }
+function said_by(k) { return "says-number " camel(answer[k]) "Says " camel(answer[k]) ".Refused (stateRefusal s) _ _ refl (λ n. refl)" }
 function refused_uses(    i, a, list, n) {
     n = split(answers_of(""), list, " ")
-    for (i = 1; i <= n; i++) print "use Rattle.answers.specs.declared." capital(list[i]) "Answer.the-variants as " list[i] > to
+    for (i = 1; i <= n; i++) print "use Rattle.answers.specs.declared." answer_type(list[i]) ".the-variants as " camel(list[i]) > to
 }
 
 function ask_law(    i, k) {
@@ -379,7 +380,7 @@ function answered_spec(    i, k, n, list, names) {
     print "use Rattle.console.specs.declared.Cgb.{Cgb}" > to
     uses("Said " answers_of("Says"))
     n = split(answers_of(""), list, " ")
-    for (i = 1; i <= n; i++) print "use Rattle.answers.specs.declared." capital(list[i]) "Answer.{" capital(list[i]) "Answer}" > to
+    for (i = 1; i <= n; i++) print "use Rattle.answers.specs.declared." answer_type(list[i]) ".{" answer_type(list[i]) "}" > to
     print "use Rattle.call.specs.declared.query.Query.{Query}" > to
     print "use Rattle.call.specs.declared.query.Query.the-variants as query" > to
     print "use Rattle.ledger.specs.Function.{Gives}" > to
@@ -390,7 +391,7 @@ function answered_spec(    i, k, n, list, names) {
     for (i = 1; i <= queries; i++) {
         k = query[i]
         print "  by-" hyphens(fn[k]) " :" > to
-        print "      (r : " capital(answer[k]) "Answer) → Gives " hyphens(fn[k]) " tt (s, tt) r → Answered s query." variant[k] " (" answer[k] "Says r)" > to
+        print "      (r : " answer_type(answer[k]) ") → Gives " hyphens(fn[k]) " tt (s, tt) r → Answered s query." variant[k] " (" camel(answer[k]) "Says r)" > to
     }
     close(to)
 }
@@ -413,7 +414,7 @@ function answered_proof(    i, k, n, list) {
     print "" > to
     print "pub answered-is : {s : Cgb} {q : Query} {said : Said} → Answered s q said → said ≡ askedOf s q" > to
     print "unfolding askedOf" > to
-    for (i = 1; i <= queries; i++) { k = query[i]; print "answered-is (by.by-" hyphens(fn[k]) " r m) = ap " answer[k] "Says (m .told .is)" > to }
+    for (i = 1; i <= queries; i++) { k = query[i]; print "answered-is (by.by-" hyphens(fn[k]) " r m) = ap " camel(answer[k]) "Says (m .told .is)" > to }
     print "" > to
     print "module _ (s : Cgb) where" > to
     print "  pub some-answer : (q : Query) → Answered s q (askedOf s q)" > to
@@ -452,7 +453,7 @@ function rust_queries(    i, k) {
     out("rust/src/query.rs")
     print "//! The queries: each leaves the state as it is, and 7 alone refuses it. Written by tools/calls from calls.txt." > to
     print "use crate::record::Record;" > to
-    print "use crate::{Cgb, Claim, Refusal, Status, Tally, kind};" > to
+    print "use crate::{Cgb, Claim, ObjectDma, Refusal, Status, Tally, kind};" > to
     print "" > to
     print "impl Cgb {" > to
     for (i = 1; i <= queries; i++) {
@@ -464,7 +465,7 @@ function rust_queries(    i, k) {
             print "    pub fn " fn[k] "(&self) -> Result<" (answer[k] == "flag" ? "bool" : "u8") ", Refusal> {" > to
             print "        self.ask_" answer[k] "(kind::" constant(k) ")" > to
         } else {
-            print "    pub fn " fn[k] "(&self) -> Result<" capital(answer[k]) ", Refusal> {" > to
+            print "    pub fn " fn[k] "(&self) -> Result<" capital(camel(answer[k])) ", Refusal> {" > to
             print "        Ok(self.ask(Record::of(kind::" constant(k) "))?." answer[k] "())" > to
         }
         print "    }" > to
@@ -489,11 +490,12 @@ function header_kinds(    k) {
     print "    CGB_KIND_LAST = " kind[calls] > to
     close(to)
 }
-function header_table(    k, lead, first) {
+function header_table(    k, width, lead, first) {
     out("../blocks/table")
-    lead = sprintf(" *%28s", "")
+    for (k = 1; k <= calls; k++) if (length(name[k]) >= width) width = length(name[k]) + 1
+    lead = sprintf(" *%" width + 6 "s", "")
     for (k = 1; k <= calls; k++) {
-        first = sprintf(" *  %2d %-22s ", kind[k], name[k])
+        first = sprintf(" *  %2d %-" width "s ", kind[k], name[k])
         if (text[k, "layout"] != "") { wrapped(first, lead, text[k, "layout"]); first = lead }
         wrapped(first, lead, "-> " text[k, "values"])
     }

@@ -1,10 +1,18 @@
-# Where each field of the state begins, from the reading functions of crates/codec/specs: a line "OFFSET SIZE NAME" for each. A part's
-# fields have the part in front, by its file's name; a field that is a record of its own has its name in front of what it holds,
-# but a countdown's ticks, which have no name.
+# Where each field of the state begins, from the reading functions of crates/codec/specs: a line "OFFSET SIZE NAME" for each. Codec.antt is
+# read first, and then again among all. A part has a file of its own, and its fields have in front the field that holds it: Codec.antt says
+# «object_dma» = objectOf b, so what Object.antt reads is OBJECT_DMA_ and its name. A field that is a record of its own has its name in
+# front of what it holds, but a countdown's ticks, which have no name.
+NR == FNR {
+    gsub(/[{}«»;]/, " ")
+    n = split($0, word, " ")
+    for (i = 2; i < n; i++) if (word[i] == "=" && sub(/Of$/, "", word[i + 1])) holder[word[i + 1]] = word[i - 1]
+    next
+}
 FNR == 1 {
     part = FILENAME
     sub(/.*\//, "", part); sub(/\.antt$/, "", part)
-    part = part == "Codec" || part == "Rest" ? "" : toupper(part) "_"
+    part = tolower(part)
+    part = part in holder ? toupper(holder[part]) "_" : ""
     depth = 0
 }
 !/(byteAt|flagAt|numberAt|bytesAt) b|record \{$|^ *}$/ { next }
