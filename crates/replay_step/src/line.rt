@@ -7,8 +7,8 @@ pub fn put_line(out: &mut [u8], at: usize, number: u64, line: Line) -> usize
     ensures { λ r. ⌜ Put (now (out .entry)) at (lineText number line) r (now (out .exit)) ⌝ }
 {
     let a = text::put_field(out, at, number);
-    let b = text::put_field(out, a, line.refusal as u64);
-    let c = text::put_field(out, b, line.pairs as u64);
+    let b = text::put_small_field(out, a, line.refusal as u64);
+    let c = text::put_small_field(out, b, line.pairs as u64);
     let d = text::put_field(out, c, line.left as u64);
     let e = text::put_hex(out, d, line.ff55);
     text::put(out, e, b'\n')

@@ -87,6 +87,17 @@ pub fn put_field(out: &mut [u8], at: usize, n: u64) -> usize
     put(out, to, b' ')
 }
 
+// The same, for numbers that mostly have one digit: so short that the compiler lays it into its callers.
+pub fn put_small_field(out: &mut [u8], at: usize, n: u64) -> usize
+    ensures { λ r. ⌜ Put (now (out .entry)) at (field n) r (now (out .exit)) ⌝ }
+{
+    if n < 10 {
+        let to = put_digit(out, at, n as u16);
+        return put(out, to, b' ');
+    }
+    put_field(out, at, n)
+}
+
 // The last hexadecimal digit, a capital from 10 on.
 fn put_capital(out: &mut [u8], at: usize, n: u8) -> usize
     ensures { λ r. ⌜ Put (now (out .entry)) at (capital n ∷ []) r (now (out .exit)) ⌝ }

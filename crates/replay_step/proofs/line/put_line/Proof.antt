@@ -14,8 +14,8 @@ returns c =
     let pairs = left .before .before .before .before .before in
     let refusal = pairs .before .before .before .before .before in
     let number = refusal .before .before .before .before .before in
-    let two = then (number .put-field .ensures) (refusal .put-field2 .ensures) in
-    let four = then (then two (pairs .put-field3 .ensures)) (left .put-field4 .ensures) in
+    let two = then (number .put-field .ensures) (refusal .put-small-field .ensures) in
+    let four = then (then two (pairs .put-small-field2 .ensures)) (left .put-field2 .ensures) in
     then (then four (ff55 .put-hex .ensures)) (end .put .ensures)
 
 pub put-line-spec : {M : Type 1} → statement M
