@@ -1,7 +1,8 @@
 //! The kinds of call: byte 0 of a record. Of each, the bytes of the record that hold its inputs, and the values of its
 //! answer. Written by tools/calls from calls.txt.
 
-/// Write (`write`). Inputs by byte: 2-3 address, 4 value, 5 LCD on if not 0. Values: none.
+/// Write (`write`). Inputs by byte: 2-3 address, 4 value, 5 LCD on if not 0, 8-15 the master edge at which object DMA
+/// starts (read at FF46 alone). Values: none.
 pub const WRITE: u8 = 1;
 
 /// Fall (`vram_dma_fall_edge`). Inputs by byte: 4 mode 0-3 (0 is HBlank); 5 bits 0-3 halted, IRQ latched, stopped,
@@ -85,5 +86,21 @@ pub const WRAM_BANK: u8 = 25;
 /// SVBK register (`svbk_register`). No inputs. Values: a byte.
 pub const SVBK_REGISTER: u8 = 26;
 
+/// Object DMA M-cycle (`object_dma_m_cycle`). Inputs by byte: 4 arbitration's answer: 0 clear, 1 contended, 2 stall;
+/// above 2 the record is no call's. Values: 0 nothing; 1 moved, its source; 2 passed over, its source; the byte that
+/// moved as a bus call's first.
+pub const OBJECT_DMA_M_CYCLE: u8 = 27;
+
+/// Arbitration from inside (`vram_dma_arbitrate_inside`). Inputs by byte: 5 bits 0-1 hold, suspended. Values: 0
+/// clear, 1 contended, 2 stall.
+pub const ARBITRATION_FROM_INSIDE: u8 = 28;
+
+/// Bus call from inside (`vram_dma_commit_bytes_inside`). Inputs by byte: 5 bits 0-1 hold, suspended. Values: how
+/// many pairs, set-up cell used.
+pub const BUS_CALL_FROM_INSIDE: u8 = 29;
+
+/// Object DMA (`object_dma`). No inputs. Values: runs, bytes counted, page.
+pub const OBJECT_DMA: u8 = 30;
+
 /// The last kind: those above it are of no call.
-pub const LAST: u8 = 26;
+pub const LAST: u8 = 30;

@@ -1,6 +1,6 @@
 //! The queries: each leaves the state as it is, and 7 alone refuses it. Written by tools/calls from calls.txt.
 use crate::record::Record;
-use crate::{Cgb, Claim, Refusal, Status, Tally, kind};
+use crate::{Cgb, Claim, ObjectDma, Refusal, Status, Tally, kind};
 
 impl Cgb {
     /// The engine's registers as they run, what is left, and whether a cut owes a byte.
@@ -69,5 +69,10 @@ impl Cgb {
     /// FF70 bits 0 to 2 as written.
     pub fn svbk_register(&self) -> Result<u8, Refusal> {
         self.ask_byte(kind::SVBK_REGISTER)
+    }
+
+    /// Object DMA: whether it runs, the bytes counted since the write to FF46, the page written.
+    pub fn object_dma(&self) -> Result<ObjectDma, Refusal> {
+        Ok(self.ask(Record::of(kind::OBJECT_DMA))?.object_dma())
     }
 }

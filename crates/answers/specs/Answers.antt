@@ -1,4 +1,4 @@
--- Document 01's number and values for each case of each answer ("If an answer is an enum, the promises use a definition
+-- The papers' number and values for each case of each answer ("If an answer is an enum, the promises use a definition
 -- that states this paper's number and values for each of its cases").
 use Prim.Native.Nat.{ℕ}
 use mathlib.Core.Path.{_≡_}
@@ -33,6 +33,10 @@ use Rattle.answers.specs.declared.BusAnswer.{BusAnswer}
 use Rattle.answers.specs.declared.BusAnswer.the-variants as moved
 use Rattle.answers.specs.declared.ConflictAnswer.{ConflictAnswer}
 use Rattle.answers.specs.declared.ConflictAnswer.the-variants as conflict
+use Rattle.answers.specs.declared.CycleAnswer.{CycleAnswer}
+use Rattle.answers.specs.declared.CycleAnswer.the-variants as cycle
+use Rattle.answers.specs.declared.ObjectDmaAnswer.{ObjectDmaAnswer}
+use Rattle.answers.specs.declared.ObjectDmaAnswer.the-variants as object
 use Rattle.answers.specs.declared.Done.{Done}
 use Rattle.answers.specs.declared.Flagged.{Flagged}
 use Rattle.answers.specs.declared.Handed.{Handed}
@@ -40,6 +44,7 @@ use Rattle.answers.specs.declared.Fell.{Fell}
 use Rattle.answers.specs.declared.Switched.{Switched}
 use Rattle.answers.specs.declared.Arbitrated.{Arbitrated}
 use Rattle.answers.specs.declared.BusOutcome.{BusOutcome}
+use Rattle.answers.specs.declared.Cycled.{Cycled}
 
 -- the number of a declined call, 0 where it is accepted, and the values that an accepted call gives
 pub record Said : Type 0 where
@@ -127,6 +132,18 @@ conflictSays (conflict.Source source) = accepted (1 ∷ source ∷ [])
 conflictSays conflict.None = accepted (0 ∷ [])
 conflictSays (conflict.Refused n) = declined n
 
+-- 0 nothing; 1 moved or 2 passed over, and the source; the byte stands beside it (document 02, A1)
+abbrev pub cycleSays : CycleAnswer → Said
+cycleSays cycle.Nothing = accepted (0 ∷ [])
+cycleSays (cycle.Moved source) = accepted (1 ∷ source ∷ [])
+cycleSays (cycle.PassedOver source) = accepted (2 ∷ source ∷ [])
+cycleSays (cycle.Refused n) = declined n
+
+-- whether object DMA runs, the bytes counted, the page
+abbrev pub objectDmaSays : ObjectDmaAnswer → Said
+objectDmaSays (object.ObjectDma runs counted page) = accepted (bitOf runs ∷ counted ∷ page ∷ [])
+objectDmaSays (object.Refused n) = declined n
+
 -- where the state stands beside the answer
 abbrev pub doneStateSays : Done → Said
 doneStateSays r = doneSays (r .answer)
@@ -149,6 +166,9 @@ arbitratedSays r = arbitrationSays (r .answer)
 
 abbrev pub busOutcomeSays : BusOutcome → Said
 busOutcomeSays r = busSays (r .answer)
+
+abbrev pub cycledSays : Cycled → Said
+cycledSays r = cycleSays (r .answer)
 
 -- the state after a call: as before where it has a number
 abbrev pub kept : ℕ → Cgb → Cgb → Cgb

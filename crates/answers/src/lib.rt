@@ -75,6 +75,22 @@ pub enum ConflictAnswer {
     Refused(u8),
 }
 
+// What an M-cycle call made of object DMA's next byte, with the byte's source. The byte itself stands beside it.
+pub enum CycleAnswer {
+    // At rest or stalled.
+    Nothing,
+    Moved(u16),
+    // Contended: counted, not moved.
+    PassedOver(u16),
+    Refused(u8),
+}
+
+// Object DMA: whether it runs, the bytes counted, the page.
+pub enum ObjectDmaAnswer {
+    ObjectDma { runs: bool, counted: u8, page: u8 },
+    Refused(u8),
+}
+
 pub struct Done {
     pub answer: DoneAnswer,
     pub state: Cgb,
@@ -111,5 +127,12 @@ pub struct BusOutcome {
     pub answer: BusAnswer,
     pub pairs: [BytePair; 2],
     pub bytes: [u8; 2],
+    pub state: Cgb,
+}
+
+// The byte is 0 where none moved.
+pub struct Cycled {
+    pub answer: CycleAnswer,
+    pub byte: u8,
     pub state: Cgb,
 }

@@ -1,8 +1,8 @@
 -- What each query says, by the definition that its contract cites. Written by tools/calls from calls.txt.
 use Rattle.console.specs.declared.Cgb.{Cgb}
-use Rattle.answers.specs.Answers.{Said, tallySays, statusSays, claimSays, flagSays, byteSays}
-use Rattle.engine.specs.Calls.{tallyCallOf, statusCallOf, claimCallOf, flagOf, byteOf, parkWaits, requestStands, cpuHeld, busSeized}
-use Rattle.engine.specs.Calls.{switchInProgress, dividerRuns, atDoubleSpeed, cpuSteps, bankSelected, svbkWritten}
+use Rattle.answers.specs.Answers.{Said, tallySays, statusSays, claimSays, flagSays, byteSays, objectDmaSays}
+use Rattle.engine.specs.Calls.{tallyCallOf, statusCallOf, claimCallOf, flagOf, byteOf, objectDmaCallOf, parkWaits, requestStands, cpuHeld}
+use Rattle.engine.specs.Calls.{busSeized, switchInProgress, dividerRuns, atDoubleSpeed, cpuSteps, bankSelected, svbkWritten}
 use Rattle.call.specs.declared.query.Query.{Query}
 use Rattle.call.specs.declared.query.Query.the-variants as query
 
@@ -20,3 +20,4 @@ askedOf s query.DoubleSpeed = flagSays (flagOf s (atDoubleSpeed s))
 askedOf s query.CpuStepsPerDot = byteSays (byteOf s (cpuSteps s))
 askedOf s query.WramBank = byteSays (byteOf s (bankSelected s))
 askedOf s query.SvbkRegister = byteSays (byteOf s (svbkWritten s))
+askedOf s query.ObjectDma = objectDmaSays (objectDmaCallOf s)

@@ -23,5 +23,6 @@ pub fn ask(state: Cgb, query: Query) -> Told
         Query::CpuStepsPerDot => told::of_byte(engine::cpu_steps_per_dot(state)),
         Query::WramBank => told::of_byte(engine::wram_bank(state)),
         Query::SvbkRegister => told::of_byte(engine::svbk_register(state)),
+        Query::ObjectDma => told::of_object_dma(engine::object_dma(state)),
     }
 }

@@ -1,16 +1,18 @@
 -- A byte is read and stored where document 01 says (specs, `ReadingOrder` and `Stored`). Assumes nothing.
 use Prim.Native.Nat.{ℕ, _-_, _<_, _≤_}
 use native.Mathlib.Omega.{arith}
-use mathlib.Core.Path.{_≡_, refl, _∙_}
+use mathlib.Core.Path.{_≡_, refl, sym, _∙_}
 use mathlib.Core.Bool.{cond}
 use mathlib.Core.List.{List}
+use mathlib.Core.Logic.{⊎-elim}
 use lib.Dec.{ltb}
 use lib.ListN.{getD}
 use borrow.Author.Tests.{lt-ltb, le-ltb, le-leb, lt-leb}
 use Rattle.memory.specs.Wram.{bankedIndex}
-use Rattle.bus.specs.MemorySteps.{ReadingOrder, Stored}
+use Rattle.bus.specs.MemorySteps.{ReadingOrder, ObjectSource, Stored}
 use Rattle.bus.specs.Source.{sourceByte}
 use Rattle.bus.specs.Store.{oamWith}
+use Rattle.bus.specs.declared.commit.Banks.{Banks}
 
 -- the ranges in order, whatever 8000h–9FFFh gives
 module _ (video : ℕ) (cartridge wram : List ℕ) (svbk a : ℕ) where
@@ -52,6 +54,22 @@ reading-order cartridge wram svbk a =
       banked = λ l h. at-banked 0xFF cartridge wram svbk a l (omega arith);
       low = at-low 0xFF cartridge wram svbk a;
       high = λ l h. at-high 0xFF cartridge wram svbk a l (omega arith);
+    }
+
+-- outside 8000h–9FFFh it makes no difference what VRAM gives
+unseen :
+    (video other : ℕ) (cartridge wram : List ℕ) (svbk a : ℕ) → 0xA000 ≤ a →
+    sourceByte video cartridge wram svbk a ≡ sourceByte other cartridge wram svbk a
+unseen video other cartridge wram svbk a h = upper-half video cartridge wram svbk a h ∙ sym (upper-half other cartridge wram svbk a h)
+
+pub object-source : (banks : Banks) (cartridge wram vram : List ℕ) (a : ℕ) → ObjectSource banks cartridge wram vram a
+object-source banks cartridge wram vram a =
+    record {
+      video = λ l h. at-video _ cartridge wram (banks .svbk) a l (omega arith);
+      other =
+          ⊎-elim
+          (λ low. at-low _ cartridge wram (banks .svbk) a low ∙ sym (at-low 0xFF cartridge wram (banks .svbk) a low))
+          (λ up. unseen _ 0xFF cartridge wram (banks .svbk) a (omega arith));
     }
 
 pub stored : (memory : List ℕ) (a byte : ℕ) → Stored memory a byte

@@ -1,11 +1,12 @@
 -- Where a source byte is read (document 01, section 3): "Reading order: 8000h–9FFFh and E000h up give FF; C000h–DFFFh is
 -- WRAM, D000h up in bank FF70 (0 means 1); the rest is storage."
-use Prim.Native.Nat.{ℕ, _-_}
+use Prim.Native.Nat.{ℕ, _+_, _-_, _*_}
 use mathlib.Core.Bool.{cond}
 use mathlib.Core.List.{List}
 use lib.Dec.{ltb}
 use lib.ListN.{getD}
 use Rattle.memory.specs.Wram.{bankedIndex}
+use Rattle.bus.specs.declared.commit.Banks.{Banks}
 
 -- the byte at an address, where 8000h–9FFFh gives `video`; storage is the "cartridge slice, index = address below 8000h,
 -- address − 2000h from A000h to BFFFh"
@@ -20,3 +21,9 @@ sourceByte video cartridge wram svbk a =
 -- as this engine reads: VRAM gives FF
 abbrev pub hdmaByte : List ℕ → List ℕ → ℕ → ℕ → ℕ
 hdmaByte cartridge wram svbk a = sourceByte 0xFF cartridge wram svbk a
+
+-- as object DMA reads (document 02, A1): "through the same read rules and stand-ins, except that 8000h–9FFFh reads VRAM in the bank
+-- of FF4F"
+abbrev pub objectByte : Banks → List ℕ → List ℕ → List ℕ → ℕ → ℕ
+objectByte banks cartridge wram vram a =
+    sourceByte (getD vram (banks .vram * 8192 + (a - 0x8000)) 0) cartridge wram (banks .svbk) a

@@ -3,3 +3,4 @@
 // call's loop), `oam_deposit` (the byte that lands in OAM) and `bus_commit` (the call).
 pub mod arbitration;
 pub mod commit;
+pub mod hold;

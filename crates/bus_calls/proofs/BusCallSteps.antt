@@ -4,7 +4,8 @@ use mathlib.Core.Bool.{Bool, true, false, not, _||_, true≢false}
 use lib.Dec.{eqb}
 use borrow.Author.Tests.{eqb-true, eq-eqb}
 use Rattle.console.specs.declared.Cgb.{Cgb}
-use Rattle.bus_calls.specs.BusCall.{Lengths, wrongLengths, busRefusal}
+use Rattle.memory.specs.Lengths.{wrongLengths}
+use Rattle.bus_calls.specs.BusCall.{Lengths, busRefusal}
 use Rattle.bus_calls.specs.BusCallSteps.{WholeSlices, BusRefusals}
 
 none-wrong : (a b c d : Bool) → (not a || not b || not c || not d) ≡ false → (a ≡ true) × (b ≡ true) × (c ≡ true) × (d ≡ true)

@@ -10,7 +10,8 @@ use Rattle.console.specs.declared.Cgb.{Cgb}
 use Rattle.bus.specs.Commit.{bytesOf, runOf, Committed}
 use Rattle.bus.specs.declared.commit.BusInput.{BusInput}
 use Rattle.bus.specs.declared.commit.Run.{Run}
-use Rattle.bus_calls.specs.BusCall.{Lengths, lengthsOf, wrongLengths, busRefusal, banksOf, refusedBus, AnswersBus}
+use Rattle.memory.specs.Lengths.{wrongLengths}
+use Rattle.bus_calls.specs.BusCall.{Lengths, lengthsOf, busRefusal, banksOf, refusedBus, AnswersBus}
 use Rattle.bus_calls.specs.BusCall.{busPairs, busAnswer, busState, busSaid, busBytes, busVram, busOam, busOf}
 use Rattle.answers.specs.Answers.{busOutcomeSays}
 use Rattle.answers.specs.declared.BusAnswer.the-variants.{Moved}

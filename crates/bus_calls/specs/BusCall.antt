@@ -2,7 +2,7 @@
 -- slices than their lengths; the bytes, VRAM and OAM at exit have definitions of their own.
 use Prim.Native.Nat.{ℕ}
 use mathlib.Core.Path.{_≡_}
-use mathlib.Core.Bool.{Bool, cond, _||_}
+use mathlib.Core.Bool.{cond}
 use mathlib.Core.List.{List, [], _∷_}
 use lib.Dec.{eqb}
 use lib.ListN.{length}
@@ -10,7 +10,7 @@ use Rattle.console.specs.Reached.{unreached}
 use Rattle.console.specs.Refusals.{_⇒_, firstOf, answered}
 use Rattle.console.specs.Set.{withVramDma}
 use Rattle.console.specs.declared.Cgb.{Cgb}
-use Rattle.memory.specs.Lengths.{cartridgeLength, wramLength, vramLength, oamLength, wrongLength}
+use Rattle.memory.specs.Lengths.{wrongLengths}
 use Rattle.bus.specs.Commit.{Taken, busTaken, bytesOf, vramAfter, oamAfter, firstTwo}
 use Rattle.bus.specs.Deposit.{noPair}
 use Rattle.bus.specs.declared.commit.Banks.{Banks}
@@ -33,10 +33,6 @@ lengthsOf cartridge wram vram oam =
     record { cartridge = length cartridge; wram = length wram; vram = length vram; oam = length oam }
 
 -- 2: "a slice of other length than cartridge 40,960, WRAM 32,768, VRAM 16,384, OAM 160"
-unfoldable pub wrongLengths : ℕ → ℕ → ℕ → ℕ → Bool
-wrongLengths cartridge wram vram oam =
-    wrongLength cartridgeLength cartridge || wrongLength wramLength wram || wrongLength vramLength vram || wrongLength oamLength oam
-
 unfoldable pub busRefusal : Cgb → Lengths → ℕ
 busRefusal s n =
     firstOf ((unreached s ⇒ 7) ∷ (wrongLengths (n .cartridge) (n .wram) (n .vram) (n .oam) ⇒ 2) ∷ [])

@@ -2,3 +2,4 @@ pub mod Bus
 pub mod BusCall
 pub mod SharedBusSteps
 pub mod BusCallSteps
+pub mod Inside

@@ -1,5 +1,5 @@
 // The bus call (vram_dma.rs, `vram_dma_commit_bytes`): the bytes that the engine moves in an M-cycle.
-ghost use Rattle.bus_calls.specs.BusCall.{wrongLengths, refusedBus, AnswersBus};
+ghost use Rattle.bus_calls.specs.BusCall.{refusedBus, AnswersBus};
 ghost use mathlib.Core.Path.{_≡_};
 use answers::BusAnswer;
 use answers::BusOutcome;
@@ -20,16 +20,6 @@ fn refused(state: Cgb, number: u8) -> BusOutcome
     }
 }
 
-// Cartridge, WRAM, VRAM and OAM, each of its length.
-fn wrong_lengths(cartridge: usize, wram: usize, vram: usize, oam: usize) -> bool
-    ensures { λ r. ⌜ r ≡ wrongLengths cartridge wram vram oam ⌝ }
-{
-    (cartridge != memory::CARTRIDGE)
-        | (wram != memory::WRAM)
-        | (vram != memory::VRAM)
-        | (oam != memory::OAM)
-}
-
 pub fn vram_dma_commit_bytes(
     state: Cgb,
     input: BusInput,
@@ -44,7 +34,7 @@ pub fn vram_dma_commit_bytes(
     if state.unreached() {
         return refused(state, refusal::STATE);
     }
-    if wrong_lengths(cartridge.len(), wram.len(), vram.len(), oam.len()) {
+    if memory::wrong_lengths(cartridge.len(), wram.len(), vram.len(), oam.len()) {
         return refused(state, refusal::LENGTH);
     }
     let banks = Banks {

@@ -12,7 +12,7 @@ use console::Cgb;
 use console::refusal;
 use transfer::Conflict;
 
-fn told(answer: Arbitration) -> ArbitrationAnswer
+pub(crate) fn told(answer: Arbitration) -> ArbitrationAnswer
     ensures { λ r. ⌜ r ≡ arbitrationAnswerOf answer ⌝ }
 {
     match answer {

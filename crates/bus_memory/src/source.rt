@@ -1,7 +1,8 @@
 // Where a source address is read (vram_dma.rs, `read_hdma_source`; document 01's stand-in for
 // `read_dma_storage`).
 ghost use mathlib.Core.Path.{_≡_};
-ghost use Rattle.bus.specs.Source.{sourceByte, hdmaByte};
+ghost use Rattle.bus.specs.Source.{sourceByte, hdmaByte, objectByte};
+use bus::commit::Banks;
 use memory::byte_at;
 
 // The byte at a source address; `video` is what 8000 to 9FFF gives.
@@ -32,4 +33,19 @@ pub fn read_hdma_source(cartridge: &[u8], wram: &[u8], svbk: u8, address: u16) -
     ensures { λ r. ⌜ r ≡ hdmaByte (now (cartridge .entry)) (now (wram .entry)) svbk address ⌝ }
 {
     read_source(0xFF, cartridge, wram, svbk, address)
+}
+
+// Object DMA reads VRAM too, in the bank of FF4F.
+pub fn read_object_source(
+    banks: Banks,
+    cartridge: &[u8],
+    wram: &[u8],
+    vram: &[u8],
+    address: u16,
+) -> u8
+    ensures { λ r. ⌜ r ≡ objectByte banks (now (cartridge .entry)) (now (wram .entry)) (now (vram .entry)) address ⌝ }
+{
+    let within = arithmetic::step::saturating_sub16(address, 0x8000);
+    let video = byte_at(vram, (banks.vram as usize) * 8192 + (within as usize));
+    read_source(video, cartridge, wram, banks.svbk, address)
 }

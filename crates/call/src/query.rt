@@ -13,4 +13,5 @@ pub enum Query {
     CpuStepsPerDot,
     WramBank,
     SvbkRegister,
+    ObjectDma,
 }

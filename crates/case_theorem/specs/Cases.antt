@@ -12,7 +12,7 @@ use Rattle.memory.specs.Lengths.{cartridgeLength, wramLength, vramLength, oamLe
 use Rattle.bus.specs.declared.arbitration.ArbitrationInput.{ArbitrationInput}
 use Rattle.bus.specs.declared.commit.BusInput.{BusInput}
 use Rattle.transfer.specs.declared.pair.BytePair.{BytePair}
-use Rattle.engine.specs.Calls.{readOf, Lengths, lengthsOf, busAnswer, busVram, busOam, arbitrationCallOf, switchCallOf}
+use Rattle.engine.specs.Calls.{readOf, Lengths, lengthsOf, busAnswer, busVram, busOam, arbitrationCallOf, switchCallOf, insideBus}
 use Rattle.answers.specs.declared.ArbitrationAnswer.the-variants as arbitration
 use Rattle.answers.specs.declared.BusAnswer.the-variants as bus
 use Rattle.answers.specs.declared.ByteAnswer.the-variants as byte
@@ -21,7 +21,7 @@ use Rattle.speed_switch.specs.declared.switch.SwitchInput.{SwitchInput}
 use Rattle.ledger.specs.LedgerInput.{Configuration}
 use Rattle.ledger.specs.Ledger.{Ledger, empty, afterCall}
 use Rattle.ledger.specs.Calls.{Call, write, read, fall, next-pair, escape-drain, bus-call, switch-speed, lcd-off, retired}
-use Rattle.ledger.specs.Calls.{blackout, wake, arbitrate, conflict, query, step, ledgerInput}
+use Rattle.ledger.specs.Calls.{blackout, wake, arbitrate, conflict, query, arbitrate-inside, bus-call-inside, object-dma-cycle, step, ledgerInput}
 
 -- the engine, the ledger beside it, and the pairs so far
 pub record Progress : Type 0 where
@@ -73,6 +73,9 @@ vramAt w (wake boundary) cartridge wram vram = vram
 vramAt w (arbitrate i) cartridge wram vram = vram
 vramAt w (conflict a) cartridge wram vram = vram
 vramAt w (query q) cartridge wram vram = vram
+vramAt w (arbitrate-inside i) cartridge wram vram = vram
+vramAt w (bus-call-inside i n) cartridge wram vram = busVram (w .engine) (insideBus (w .engine) i) n cartridge wram vram
+vramAt w (object-dma-cycle a n) cartridge wram vram = vram
 
 unfoldable pub vramRun : Progress → List Call → List ℕ → List ℕ → List ℕ → List ℕ
 vramRun w [] cartridge wram vram = vram
@@ -89,7 +92,7 @@ ff55-is v w = (wram : List ℕ) → length wram ≡ wramLength → readOf (w .en
 
 -- "LCD on"
 abbrev pub to : (address value : ℕ) → T (ltb value 256) → Call
-to address value byte = write address (record { value = value; «lcd_on» = true }) 32768 byte
+to address value byte = write address (record { value = value; «lcd_on» = true; «oam_start_edge» = 0 }) 32768 byte
 
 -- a running fall at an edge
 abbrev pub fallsAt : ℕ → ℕ → Call

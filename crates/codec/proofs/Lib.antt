@@ -5,6 +5,7 @@ pub mod CursorBack
 pub mod BlockBack
 pub mod ArbBack
 pub mod OamBack
+pub mod ObjectBack
 pub mod Equal
 pub mod State
 pub mod RoundTrip

@@ -15,11 +15,13 @@ use Rattle.codec.proofs.CursorBack.{cursor-back, cursor-fits}
 use Rattle.codec.proofs.BlockBack.{block-back, block-fits}
 use Rattle.codec.proofs.ArbBack.{arb-back, arb-fits}
 use Rattle.codec.proofs.OamBack.{oam-back}
+use Rattle.codec.proofs.ObjectBack.{object-back, object-fits}
 use Rattle.codec.proofs.Runs.{part-length}
 use Rattle.codec.specs.Cursor.{cursorBytes}
 use Rattle.codec.specs.Block.{blockBytes}
 use Rattle.codec.specs.Arb.{arbBytes}
 use Rattle.codec.specs.Oam.{oamBytes}
+use Rattle.codec.specs.Object.{objectBytes}
 use Rattle.codec.specs.Rest.{registerBytes, bankBytes, latencyTag, latencyValue, latencyOf, consoleOf}
 use Rattle.codec.specs.Codec.{encodeOf, dmaOf, stateOf}
 use Rattle.codec.specs.Fits.{Fits, Bytes}
@@ -31,7 +33,7 @@ use Rattle.console.specs.declared.WakeLatency.{WakeLatency}
 
 module _ (s : Cgb) (e : length (s .«extra_oam») ≡ 24) where
   unfoldable pub sized : List Part
-  unfolding cursorBytes blockBytes arbBytes oamBytes registerBytes bankBytes
+  unfolding cursorBytes blockBytes arbBytes oamBytes registerBytes bankBytes objectBytes
   sized =
       record { size = 9; bytes = cursorBytes (s .«vram_dma» .cursor); is = refl } ∷
       record { size = 15; bytes = blockBytes (s .«vram_dma» .block); is = refl } ∷
@@ -39,21 +41,22 @@ module _ (s : Cgb) (e : length (s .«extra_oam») ≡ 24) where
       record { size = 2; bytes = oamBytes (s .«vram_dma» .oam); is = refl } ∷
       record { size = 15; bytes = registerBytes s; is = refl } ∷
       record { size = 24; bytes = s .«extra_oam»; is = e } ∷
-      record { size = 11; bytes = bankBytes (s .vram .selected) (s .«console_state»); is = refl } ∷ []
+      record { size = 11; bytes = bankBytes (s .vram .selected) (s .«console_state»); is = refl } ∷
+      record { size = 11; bytes = objectBytes (s .«object_dma»); is = refl } ∷ []
 
   -- what `encode` stores is what it should write
   pub laid : stores 0 sized (replicate 248 0) ≡ encodeOf s
   unfolding encodeOf sized
-  laid = parts.laid [] sized 0 157 refl
+  laid = parts.laid [] sized 0 146 refl
 
   pub length-is : length (encodeOf s) ≡ 248
   unfolding encodeOf sized
-  length-is = parts.padded-length sized 157
+  length-is = parts.padded-length sized 146
 
   -- the part with this number stands at its offset
   pub stands : (k : ℕ) → bytesAt (encodeOf s) (offset sized k) (partAt sized k .size) ≡ partAt sized k .bytes
   unfolding encodeOf sized
-  stands k = parts.stands sized (replicate 157 0) k
+  stands k = parts.stands sized (replicate 146 0) k
 
 -- the parts in front of the extra OAM stand whatever its length
 module _ (s : Cgb) where
@@ -121,6 +124,7 @@ module _ (s : Cgb) (h : Fits s) where
         «extra_oam» = part 5 i;
         vram = record { selected = bank .byte 0 (s .vram .selected) (lit< tt) refl i };
         «console_state» = console-back i;
+        «object_dma» = object-back b (s .«object_dma») (part 7) (h .object .«start_edge») i;
       }
 
 -- ---- within its widths
@@ -153,4 +157,5 @@ module _ (b : List ℕ) (h : Bytes 248 b) where
         «extra_oam» = record { long = part-length b 56 24; small = part-small b at 56 24 };
         selected = at 80;
         «blackout_anchor» = number-fits 8 b 81 at;
+        object = object-fits b at;
       }

@@ -9,6 +9,7 @@ use Rattle.codec.specs.Cursor.{cursorBytes, cursorOf}
 use Rattle.codec.specs.Block.{blockBytes, blockOf}
 use Rattle.codec.specs.Arb.{arbBytes, arbOf}
 use Rattle.codec.specs.Oam.{oamBytes, oamOf}
+use Rattle.codec.specs.Object.{objectBytes, objectOf}
 use Rattle.codec.specs.Rest.{latencyOf, registerBytes, bankBytes, consoleOf}
 use Rattle.codec.specs.declared.Decoded.{Decoded}
 use Rattle.console.specs.declared.Cgb.{Cgb}
@@ -27,11 +28,12 @@ partsOf s =
     oamBytes (s .«vram_dma» .oam) ∷
     registerBytes s ∷
     s .«extra_oam» ∷
-    bankBytes (s .vram .selected) (s .«console_state») ∷ []
+    bankBytes (s .vram .selected) (s .«console_state») ∷
+    objectBytes (s .«object_dma») ∷ []
 
--- with no gap; bytes 91 to 247 are spare and zero
+-- with no gap; bytes 102 to 247 are spare and zero
 unfoldable pub encodeOf : Cgb → List ℕ
-encodeOf s = joined (partsOf s) ++ replicate 157 0
+encodeOf s = joined (partsOf s) ++ replicate 146 0
 
 unfoldable pub dmaOf : List ℕ → VramDma
 dmaOf b = record { cursor = cursorOf b; block = blockOf b; arb = arbOf b; oam = oamOf b }
@@ -55,6 +57,7 @@ stateOf b =
       «extra_oam» = bytesAt b 56 24;
       vram = record { selected = byteAt b 80 };
       «console_state» = consoleOf b;
+      «object_dma» = objectOf b;
     }
 
 abbrev pub sameBytes : List ℕ → List ℕ → Bool

@@ -6,6 +6,7 @@ use lib.ListN.{length}
 use Rattle.arithmetic.specs.Number.{byteAt}
 use Rattle.codec.specs.Rest.{latencyValue}
 use Rattle.console.specs.declared.Cgb.{Cgb}
+use Rattle.console.specs.declared.object.ObjectDma.{ObjectDma}
 use Rattle.console.specs.declared.vram_dma.HaltArbiter.{HaltArbiter}
 use Rattle.console.specs.declared.vram_dma.HblankBlock.{HblankBlock}
 use Rattle.console.specs.declared.vram_dma.TransferCursor.{TransferCursor}
@@ -36,6 +37,11 @@ pub record FitsArb (a : HaltArbiter) : Type 0 where
   pub «wake_pend_blind» : a .«wake_pend_blind» .0 < 256
   pub «granted_ahead» : a .«granted_ahead» < 256
 
+pub record FitsObject (o : ObjectDma) : Type 0 where
+  pub page : o .page < 256
+  pub counted : o .counted < 256
+  pub «start_edge» : o .«start_edge» < 2 ^ 64
+
 pub record Fits (s : Cgb) : Type 0 where
   pub cursor : FitsCursor (s .«vram_dma» .cursor)
   pub block : FitsBlock (s .«vram_dma» .block)
@@ -50,3 +56,4 @@ pub record Fits (s : Cgb) : Type 0 where
   pub «extra_oam» : Bytes 24 (s .«extra_oam»)
   pub selected : s .vram .selected < 256
   pub «blackout_anchor» : s .«console_state» .«blackout_anchor» < 2 ^ 64
+  pub object : FitsObject (s .«object_dma»)

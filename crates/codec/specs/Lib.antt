@@ -2,6 +2,7 @@ pub mod Cursor
 pub mod Block
 pub mod Arb
 pub mod Oam
+pub mod Object
 pub mod Rest
 pub mod Codec
 pub mod Fits

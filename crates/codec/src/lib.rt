@@ -3,6 +3,7 @@ mod arb;
 mod block;
 mod cursor;
 mod oam;
+mod object;
 mod rest;
 mod run;
 mod widths;
@@ -20,6 +21,8 @@ use cursor::cursor_of;
 use cursor::put_cursor;
 use oam::oam_of;
 use oam::put_oam;
+use object::object_of;
+use object::put_object;
 use rest::console_of;
 use rest::extra_of;
 use rest::latency_of;
@@ -52,6 +55,8 @@ pub fn encode(state: Cgb) -> [u8; 248]
     put_extra(&mut out, extra);
     let console = state.console_state;
     put_bank(&mut out, state.vram.selected, console);
+    let object = state.object_dma;
+    put_object(&mut out, object);
     out
 }
 
@@ -86,6 +91,7 @@ fn state_of(b: &[u8; 248]) -> Cgb
         extra_oam: extra_of(b),
         vram: CgbVram { selected: b[80] },
         console_state: console_of(b),
+        object_dma: object_of(b),
     }
 }
 

@@ -6,10 +6,11 @@ use mathlib.Core.List.{List, [], _∷_}
 use lib.Dec.{eqb}
 use borrow.Author.Tests.{ltb-false, le-ltb, eq-eqb, eqb-true, not-false}
 use Rattle.console.specs.declared.Cgb.{Cgb}
+use Rattle.console.specs.declared.object.ObjectDma.{ObjectDma}
 use Rattle.console.specs.declared.vram_dma.VramDma.{VramDma}
 use Rattle.console.specs.PowerOn.{powerOnOf, dmaAtRest}
-use Rattle.console.specs.Reached.{anyOf, engineTests, bankTests, unreached, unreachedTests, Sound, BanksWithin, Reached}
-use Rattle.console.specs.Set.{withVramDma, withSvbk, withVram, withVramSelected}
+use Rattle.console.specs.Reached.{anyOf, engineTests, bankTests, objectDmaTests, unreached, unreachedTests, Sound, BanksWithin, ObjectDmaWithin, Reached}
+use Rattle.console.specs.Set.{withVramDma, withSvbk, withVram, withVramSelected, withObjectDma}
 
 -- ---- a list of tests: where none holds each fails, and the other way round
 
@@ -70,19 +71,34 @@ banks-within v k e =
 banks-pass : (v k : ℕ) → BanksWithin v k → anyOf (bankTests v k) ≡ false
 banks-pass v k b = le-ltb 7 v (b .svbk) nor le-ltb 1 k (b .bank) nor refl
 
+-- ---- object DMA
+
+object-within : (o : ObjectDma) → anyOf (objectDmaTests o) ≡ false → ObjectDmaWithin o
+object-within o e =
+    let test = fails (objectDmaTests o) e in
+    record { counted = ltb-false 160 _ (test 0); page = ltb-false 0xDF _ (test 1) }
+
+object-passes : (o : ObjectDma) → ObjectDmaWithin o → anyOf (objectDmaTests o) ≡ false
+object-passes o k = le-ltb 160 _ (k .counted) nor le-ltb 0xDF _ (k .page) nor refl
+
 -- ---- the state: a line for each part
 
 pub reached : (s : Cgb) → unreached s ≡ false → Reached s
 unfolding unreached
 reached s e =
     let part = fails (unreachedTests s) e in
-    record { engine = engine-within (s .«vram_dma») (part 0); banks = banks-within (s .svbk) (s .vram .selected) (part 1) }
+    record {
+      engine = engine-within (s .«vram_dma») (part 0);
+      banks = banks-within (s .svbk) (s .vram .selected) (part 1);
+      object = object-within (s .«object_dma») (part 2);
+    }
 
 pub passes : (s : Cgb) → Reached s → unreached s ≡ false
 unfolding unreached
 passes s r =
     engine-passes (s .«vram_dma») (r .engine)
     nor banks-pass (s .svbk) (s .vram .selected) (r .banks)
+    nor object-passes (s .«object_dma») (r .object)
     nor refl
 
 pub power-on-passes : (compat : Bool) → unreached (powerOnOf compat) ≡ false
@@ -95,10 +111,13 @@ sound s r = r .engine
 -- ---- a state with one part put anew still passes, where the new part does
 
 pub reached-with : (s : Cgb) (d : VramDma) → Reached s → Sound d → Reached (withVramDma d s)
-reached-with s d r k = record { engine = k; banks = r .banks }
+reached-with s d r k = record { engine = k; banks = r .banks; object = r .object }
 
 pub reached-with-svbk : (s : Cgb) (v : ℕ) → Reached s → v ≤ 7 → Reached (withSvbk v s)
-reached-with-svbk s v r h = record { engine = r .engine; banks = record { svbk = h; bank = r .banks .bank } }
+reached-with-svbk s v r h = record { engine = r .engine; banks = record { svbk = h; bank = r .banks .bank }; object = r .object }
 
 pub reached-with-bank : (s : Cgb) (k : ℕ) → Reached s → k ≤ 1 → Reached (withVram (withVramSelected k (s .vram)) s)
-reached-with-bank s k r h = record { engine = r .engine; banks = record { svbk = r .banks .svbk; bank = h } }
+reached-with-bank s k r h = record { engine = r .engine; banks = record { svbk = r .banks .svbk; bank = h }; object = r .object }
+
+pub reached-with-object : (s : Cgb) (o : ObjectDma) → Reached s → ObjectDmaWithin o → Reached (withObjectDma o s)
+reached-with-object s o r k = record { engine = r .engine; banks = r .banks; object = k }

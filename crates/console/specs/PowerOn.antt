@@ -1,11 +1,13 @@
 -- The state at power-on (document 01, section 1: "Power-on takes the compat flag; other fields are `Default`'s").
--- The Rust's `Default` of `Cgb` has svbk 1; every other number is 0 and every other flag false.
+-- The Rust's `Default` of `Cgb` has svbk 1; every other number is 0 and every other flag false. Document 02, A1: "the start edge, 0 at
+-- power-on, where object DMA rests".
 use mathlib.Core.Bool.{Bool, false}
 use lib.ListN.{replicate}
 use Rattle.countdown.specs.Countdown.{cleared}
 use Rattle.console.specs.declared.Cgb.{Cgb}
 use Rattle.console.specs.declared.CgbConsoleState.{CgbConsoleState}
 use Rattle.console.specs.declared.WakeLatency.the-variants as latency
+use Rattle.console.specs.declared.object.ObjectDma.{ObjectDma}
 use Rattle.console.specs.declared.vram_dma.HaltArbiter.{HaltArbiter}
 use Rattle.console.specs.declared.vram_dma.HblankBlock.{HblankBlock}
 use Rattle.console.specs.declared.vram_dma.OamContention.{OamContention}
@@ -58,6 +60,9 @@ dmaAtRest = record { cursor = cursorAtRest; block = blockAtRest; arb = arbAtRest
 abbrev pub consoleAtRest : CgbConsoleState
 consoleAtRest = record { «blackout_anchor» = 0; «vram_dma_claim» = record { committed = false; standing = false } }
 
+abbrev pub objectDmaAtRest : ObjectDma
+objectDmaAtRest = record { running = false; page = 0; counted = 0; «start_edge» = 0 }
+
 unfoldable pub powerOnOf : Bool → Cgb
 powerOnOf compat =
     record {
@@ -76,4 +81,5 @@ powerOnOf compat =
       «extra_oam» = replicate 24 0;
       vram = record { selected = 0 };
       «console_state» = consoleAtRest;
+      «object_dma» = objectDmaAtRest;
     }

@@ -1,5 +1,6 @@
 -- Refusal 7 (document 01, "Declined by input"): "a state that no run leaves: quota above 2, block above 16, left above
--- 2,048, FF70 above 7, FF4F's bank above 1, or left 0 in a mode other than Idle".
+-- 2,048, FF70 above 7, FF4F's bank above 1, or left 0 in a mode other than Idle". Document 02, A1: "7 gains more than 160 moved bytes
+-- and a page above DFh".
 use mathlib.Core.Path.{_≡_}
 use Prim.Native.Nat.{ℕ, _≤_}
 use mathlib.Core.Bool.{Bool, true, false, _&&_, _||_, not}
@@ -7,6 +8,7 @@ use mathlib.Core.List.{List, [], _∷_}
 use lib.Dec.{ltb, eqb}
 use Rattle.console.specs.Modes.{isIdle}
 use Rattle.console.specs.declared.Cgb.{Cgb}
+use Rattle.console.specs.declared.object.ObjectDma.{ObjectDma}
 use Rattle.console.specs.declared.vram_dma.TransferMode.{TransferMode}
 use Rattle.console.specs.declared.vram_dma.VramDma.{VramDma}
 
@@ -27,9 +29,16 @@ engineTests d =
 abbrev pub bankTests : ℕ → ℕ → List Bool
 bankTests svbk selected = ltb 7 svbk ∷ ltb 1 selected ∷ []
 
+-- the tests of object DMA: the bytes counted ("moved" includes those passed over), the page
+abbrev pub objectDmaTests : ObjectDma → List Bool
+objectDmaTests o = ltb 160 (o .counted) ∷ ltb 0xDF (o .page) ∷ []
+
 -- part by part: one of its tests holds
 abbrev pub unreachedTests : Cgb → List Bool
-unreachedTests s = anyOf (engineTests (s .«vram_dma»)) ∷ anyOf (bankTests (s .svbk) (s .vram .selected)) ∷ []
+unreachedTests s =
+    anyOf (engineTests (s .«vram_dma»)) ∷
+    anyOf (bankTests (s .svbk) (s .vram .selected)) ∷
+    anyOf (objectDmaTests (s .«object_dma»)) ∷ []
 
 unfoldable pub unreached : Cgb → Bool
 unreached s = anyOf (unreachedTests s)
@@ -48,11 +57,16 @@ pub record BanksWithin (v k : ℕ) : Type 0 where
   pub svbk : v ≤ 7
   pub bank : k ≤ 1
 
+pub record ObjectDmaWithin (o : ObjectDma) : Type 0 where
+  pub counted : o .counted ≤ 160
+  pub page : o .page ≤ 0xDF
+
 -- each part's facts, by its name
-pub record Parts (Engine Banks : Type 0) : Type 0 where
+pub record Parts (Engine Banks Object : Type 0) : Type 0 where
   pub engine : Engine
   pub banks : Banks
+  pub object : Object
 
 -- what holds of a state exactly where refusal 7 does not come
 abbrev pub Reached : Cgb → Type 0
-Reached s = Parts (Sound (s .«vram_dma»)) (BanksWithin (s .svbk) (s .vram .selected))
+Reached s = Parts (Sound (s .«vram_dma»)) (BanksWithin (s .svbk) (s .vram .selected)) (ObjectDmaWithin (s .«object_dma»))

@@ -9,12 +9,25 @@ use Rattle.console.specs.declared.CgbConsoleState.{CgbConsoleState}
 use Rattle.console.specs.declared.CgbVram.{CgbVram}
 use Rattle.console.specs.declared.VramDmaClaim.{VramDmaClaim}
 use Rattle.console.specs.declared.WakeLatency.{WakeLatency}
+use Rattle.console.specs.declared.object.ObjectDma.{ObjectDma}
 use Rattle.console.specs.declared.vram_dma.HaltArbiter.{HaltArbiter}
 use Rattle.console.specs.declared.vram_dma.HblankBlock.{HblankBlock}
 use Rattle.console.specs.declared.vram_dma.OamContention.{OamContention}
 use Rattle.console.specs.declared.vram_dma.TransferCursor.{TransferCursor}
 use Rattle.console.specs.declared.vram_dma.TransferMode.{TransferMode}
 use Rattle.console.specs.declared.vram_dma.VramDma.{VramDma}
+
+abbrev pub withObjectDmaRunning : Bool → ObjectDma → ObjectDma
+withObjectDmaRunning x s = record { running = x; page = s .page; counted = s .counted; «start_edge» = s .«start_edge» }
+
+abbrev pub withObjectDmaPage : ℕ → ObjectDma → ObjectDma
+withObjectDmaPage x s = record { running = s .running; page = x; counted = s .counted; «start_edge» = s .«start_edge» }
+
+abbrev pub withObjectDmaCounted : ℕ → ObjectDma → ObjectDma
+withObjectDmaCounted x s = record { running = s .running; page = s .page; counted = x; «start_edge» = s .«start_edge» }
+
+abbrev pub withObjectDmaStartEdge : ℕ → ObjectDma → ObjectDma
+withObjectDmaStartEdge x s = record { running = s .running; page = s .page; counted = s .counted; «start_edge» = x }
 
 abbrev pub withCursorSource : ℕ → TransferCursor → TransferCursor
 withCursorSource x s =
@@ -537,6 +550,7 @@ withSvbk x s =
       «extra_oam» = s .«extra_oam»;
       vram = s .vram;
       «console_state» = s .«console_state»;
+      «object_dma» = s .«object_dma»;
     }
 
 abbrev pub withKey1Armed : Bool → Cgb → Cgb
@@ -557,6 +571,7 @@ withKey1Armed x s =
       «extra_oam» = s .«extra_oam»;
       vram = s .vram;
       «console_state» = s .«console_state»;
+      «object_dma» = s .«object_dma»;
     }
 
 abbrev pub withDoubleSpeed : Bool → Cgb → Cgb
@@ -577,6 +592,7 @@ withDoubleSpeed x s =
       «extra_oam» = s .«extra_oam»;
       vram = s .vram;
       «console_state» = s .«console_state»;
+      «object_dma» = s .«object_dma»;
     }
 
 abbrev pub withDmgCompat : Bool → Cgb → Cgb
@@ -597,6 +613,7 @@ withDmgCompat x s =
       «extra_oam» = s .«extra_oam»;
       vram = s .vram;
       «console_state» = s .«console_state»;
+      «object_dma» = s .«object_dma»;
     }
 
 abbrev pub withVramDma : VramDma → Cgb → Cgb
@@ -617,6 +634,7 @@ withVramDma x s =
       «extra_oam» = s .«extra_oam»;
       vram = s .vram;
       «console_state» = s .«console_state»;
+      «object_dma» = s .«object_dma»;
     }
 
 abbrev pub withSpeedSwitchBlackout : ℕ → Cgb → Cgb
@@ -637,6 +655,7 @@ withSpeedSwitchBlackout x s =
       «extra_oam» = s .«extra_oam»;
       vram = s .vram;
       «console_state» = s .«console_state»;
+      «object_dma» = s .«object_dma»;
     }
 
 abbrev pub withSpeedSwitchWakeLatency : WakeLatency → Cgb → Cgb
@@ -657,6 +676,7 @@ withSpeedSwitchWakeLatency x s =
       «extra_oam» = s .«extra_oam»;
       vram = s .vram;
       «console_state» = s .«console_state»;
+      «object_dma» = s .«object_dma»;
     }
 
 abbrev pub withSwitchRelockDebit : Bool → Cgb → Cgb
@@ -677,6 +697,7 @@ withSwitchRelockDebit x s =
       «extra_oam» = s .«extra_oam»;
       vram = s .vram;
       «console_state» = s .«console_state»;
+      «object_dma» = s .«object_dma»;
     }
 
 abbrev pub withFf72 : ℕ → Cgb → Cgb
@@ -697,6 +718,7 @@ withFf72 x s =
       «extra_oam» = s .«extra_oam»;
       vram = s .vram;
       «console_state» = s .«console_state»;
+      «object_dma» = s .«object_dma»;
     }
 
 abbrev pub withFf73 : ℕ → Cgb → Cgb
@@ -717,6 +739,7 @@ withFf73 x s =
       «extra_oam» = s .«extra_oam»;
       vram = s .vram;
       «console_state» = s .«console_state»;
+      «object_dma» = s .«object_dma»;
     }
 
 abbrev pub withFf74 : ℕ → Cgb → Cgb
@@ -737,6 +760,7 @@ withFf74 x s =
       «extra_oam» = s .«extra_oam»;
       vram = s .vram;
       «console_state» = s .«console_state»;
+      «object_dma» = s .«object_dma»;
     }
 
 abbrev pub withFf75 : ℕ → Cgb → Cgb
@@ -757,6 +781,7 @@ withFf75 x s =
       «extra_oam» = s .«extra_oam»;
       vram = s .vram;
       «console_state» = s .«console_state»;
+      «object_dma» = s .«object_dma»;
     }
 
 abbrev pub withExtraOam : List ℕ → Cgb → Cgb
@@ -777,6 +802,7 @@ withExtraOam x s =
       «extra_oam» = x;
       vram = s .vram;
       «console_state» = s .«console_state»;
+      «object_dma» = s .«object_dma»;
     }
 
 abbrev pub withVram : CgbVram → Cgb → Cgb
@@ -797,6 +823,7 @@ withVram x s =
       «extra_oam» = s .«extra_oam»;
       vram = x;
       «console_state» = s .«console_state»;
+      «object_dma» = s .«object_dma»;
     }
 
 abbrev pub withConsoleState : CgbConsoleState → Cgb → Cgb
@@ -817,4 +844,26 @@ withConsoleState x s =
       «extra_oam» = s .«extra_oam»;
       vram = s .vram;
       «console_state» = x;
+      «object_dma» = s .«object_dma»;
+    }
+
+abbrev pub withObjectDma : ObjectDma → Cgb → Cgb
+withObjectDma x s =
+    record {
+      svbk = s .svbk;
+      «key1_armed» = s .«key1_armed»;
+      «double_speed» = s .«double_speed»;
+      «dmg_compat» = s .«dmg_compat»;
+      «vram_dma» = s .«vram_dma»;
+      «speed_switch_blackout» = s .«speed_switch_blackout»;
+      «speed_switch_wake_latency» = s .«speed_switch_wake_latency»;
+      «switch_relock_debit» = s .«switch_relock_debit»;
+      ff72 = s .ff72;
+      ff73 = s .ff73;
+      ff74 = s .ff74;
+      ff75 = s .ff75;
+      «extra_oam» = s .«extra_oam»;
+      vram = s .vram;
+      «console_state» = s .«console_state»;
+      «object_dma» = x;
     }

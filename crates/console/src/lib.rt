@@ -1,9 +1,11 @@
 // The console's state, as far as this port goes (lib.rs, `Cgb`; console_state.rs; vram.rs). docs/MANUAL.md says of each field what
 // sets it and what looks at it.
+pub mod object;
 pub mod power_on;
 pub mod refusal;
 pub mod vram_dma;
 
+use crate::object::ObjectDma;
 use vram_dma::VramDma;
 
 // The wake intake's countdown, `Option<u8>` in the Rust: no wake in flight, or the M-cycle boundaries left of it.
@@ -66,4 +68,6 @@ pub struct Cgb {
     pub vram: CgbVram,
     // What the console around the engine keeps.
     pub console_state: CgbConsoleState,
+    // Object DMA (FF46).
+    pub object_dma: ObjectDma,
 }

@@ -6,6 +6,7 @@ use crate::CgbConsoleState;
 use crate::CgbVram;
 use crate::VramDmaClaim;
 use crate::WakeLatency;
+use crate::object::ObjectDma;
 use crate::vram_dma::HaltArbiter;
 use crate::vram_dma::HblankBlock;
 use crate::vram_dma::OamContention;
@@ -107,6 +108,12 @@ pub fn power_on(dmg_compat: bool) -> Cgb
                 committed: false,
                 standing: false,
             },
+        },
+        object_dma: ObjectDma {
+            running: false,
+            page: 0,
+            counted: 0,
+            start_edge: 0,
         },
     }
 }

@@ -1,4 +1,4 @@
-// Document 01's numbers for declined calls, and the test behind 7.
+// The papers' numbers for declined calls, and the test behind 7.
 ghost use mathlib.Core.Path.{_≡_};
 ghost use Rattle.console.specs.Reached.{unreached};
 use crate::Cgb;
@@ -25,9 +25,11 @@ pub const UNARMED: u8 = 12;
 pub const DEFERRED: u8 = 13;
 // A commit not already counted would raise granted from 255.
 pub const GRANTED: u8 = 14;
+// Document 02, A1: a page of object DMA above DF.
+pub const PAGE: u8 = 21;
 
 impl Cgb {
-    // Refusal 7: one of its six tests holds. In the paper's order, which is also the fastest.
+    // Refusal 7: one of its eight tests holds. In the papers' order, which is also the fastest.
     pub fn unreached(self) -> bool
         ensures { λ r. ⌜ r ≡ unreached self ⌝ }
     {
@@ -40,5 +42,7 @@ impl Cgb {
             | (self.svbk > 7)
             | (self.vram.selected > 1)
             | ((c.remaining == 0) & !idle)
+            | (self.object_dma.counted > 160)
+            | (self.object_dma.page > 0xDF)
     }
 }

@@ -15,6 +15,7 @@ use Rattle.answers.specs.Answers.{stateRefusal}
 use Rattle.fall_call.proofs.FallCallSteps.{fall-call-steps}
 use Rattle.bus_calls.specs.Bus.{arbitrated, arbitrationCallOf}
 use Rattle.bus_calls.specs.BusCall.{busRefusal, busState}
+use Rattle.object_dma_calls.specs.Cycle.{cycleRefusal, cycleState}
 use Rattle.transfer_calls.specs.Lcd.{lcdCallOf, retiredCallOf}
 use Rattle.transfer_calls.specs.Pair.{nextPairOf, escapeDrainOf}
 use Rattle.engine.specs.OnceCalls
@@ -48,7 +49,7 @@ of-marks : {d e : VramDma} → KeepsMarks d e → Between d e
 of-marks k = record { taken = λ h. k .taken ∙ h; pend = λ h. k .pend ∙ h }
 
 between : (s : Cgb) → BetweenFalls s
-unfolding nextPairOf escapeDrainOf lcdCallOf retiredCallOf busState arbitrationCallOf
+unfolding nextPairOf escapeDrainOf lcdCallOf retiredCallOf busState arbitrationCallOf cycleState
 between s =
     let calls = engine.other-calls (s .«vram_dma») in
     let passes = eqb (stateRefusal s) 0 in
@@ -59,6 +60,7 @@ between s =
       retired = either s _ passes (calls .retired);
       bus-call = λ i n. either s _ (eqb (busRefusal s n) 0) (of-marks (bus-steps i (s .«vram_dma») .marks));
       arbitration = λ i. either s _ passes (calls .arbitration (arbitrated s i .oam));
+      cycle = λ a n. either s _ (eqb (cycleRefusal s n) 0) (record { taken = λ e. e; pend = λ e. e });
     }
 
 pub once-calls : OnceCalls

@@ -5,5 +5,7 @@ pub use Rattle.fall_call.proofs.FallCall.{fall-told}
 pub use Rattle.transfer_calls.proofs.Says.{pair-said, next-told, drain-told, lcd-told, retired-told}
 pub use Rattle.bus_calls.proofs.Says.{arbitration-said, conflict-said, bus-told, arbitrate-told, conflict-told}
 pub use Rattle.speed_calls.proofs.Says.{switch-said, switch-told, blackout-told, wake-told}
+pub use Rattle.object_dma_calls.proofs.Cycles.{cycle-told}
+pub use Rattle.object_dma_calls.proofs.Queries.{object-dma-told}
 pub use Rattle.answers.proofs.Queries.{flag-told, byte-told}
 pub use Rattle.engine_queries.proofs.Says.{tally-told, status-told, claim-told}

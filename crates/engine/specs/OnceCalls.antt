@@ -5,6 +5,7 @@ use mathlib.Core.Path.{_≡_}
 use mathlib.Core.Bool.{true, false, cond}
 use Rattle.console.specs.Reached.{unreached}
 use Rattle.console.specs.declared.Cgb.{Cgb}
+use Rattle.bus.specs.declared.arbitration.Arbitration.{Arbitration}
 use Rattle.bus.specs.declared.arbitration.ArbitrationInput.{ArbitrationInput}
 use Rattle.bus.specs.declared.commit.BusInput.{BusInput}
 use Rattle.fall_stages.specs.Once.{Running, Between}
@@ -13,6 +14,7 @@ use Rattle.answers.specs.Answers.{tellsCommit}
 use Rattle.fall_call.specs.Fall.{fallCallOf}
 use Rattle.bus_calls.specs.Bus.{arbitrationCallOf}
 use Rattle.bus_calls.specs.BusCall.{Lengths, busState}
+use Rattle.object_dma_calls.specs.Cycle.{cycleState}
 use Rattle.transfer_calls.specs.Lcd.{lcdCallOf, retiredCallOf}
 use Rattle.transfer_calls.specs.Pair.{nextPairOf, escapeDrainOf}
 
@@ -20,7 +22,8 @@ use Rattle.transfer_calls.specs.Pair.{nextPairOf, escapeDrainOf}
 abbrev pub CallsBetween : Cgb → Cgb → Type 0
 CallsBetween s t = Between (s .«vram_dma») (t .«vram_dma»)
 
--- the calls that move bytes, arbitrate or end an instruction are of that kind, and so is LCD off, declined or not
+-- the calls that move bytes, arbitrate or end an instruction are of that kind, and so is LCD off, declined or not; a bus call and
+-- arbitration from inside are those with what the state tells them
 pub record BetweenFalls (s : Cgb) : Type 0 where
   pub pair : CallsBetween s (nextPairOf s .state)
   pub drain : CallsBetween s (escapeDrainOf s .state)
@@ -28,6 +31,7 @@ pub record BetweenFalls (s : Cgb) : Type 0 where
   pub retired : CallsBetween s (retiredCallOf s .state)
   pub bus-call : (i : BusInput) (n : Lengths) → CallsBetween s (busState s i n)
   pub arbitration : (i : ArbitrationInput) → CallsBetween s (arbitrationCallOf s i .state)
+  pub cycle : (a : Arbitration) (n : Lengths) → CallsBetween s (cycleState s a n)
 
 -- a run of such falls from the state s, with anything of that kind in front of and between them; n is the commits that their
 -- answers tell

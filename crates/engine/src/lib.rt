@@ -1,4 +1,4 @@
-// The engine's door: power-on and every call of document 01, in the paper's order, each passed on from the crate that is about it.
+// The engine's door: power-on and every call of document 01, in the paper's order, then those of document 02, each passed on from the crate that is about it.
 // Code above names the calls, their inputs and their answers by this crate alone. A call that takes a state tests 7 and its own
 // refusals in the paper's order, and hands back what it was given where it declines.
 
@@ -50,9 +50,17 @@ pub use speed_queries::speed_switch_in_progress;
 pub use bank_queries::svbk_register;
 pub use bank_queries::wram_bank;
 
+// Document 02, A1. Object DMA: its M-cycle call, arbitration and the bus call with its state from inside, what is asked of it.
+pub use bus_calls::inside::vram_dma_arbitrate_inside;
+pub use bus_calls::inside::vram_dma_commit_bytes_inside;
+pub use object_dma_calls::cycle::object_dma_m_cycle;
+pub use object_dma_calls::query::object_dma;
+
 // What the calls take,
+pub use bus::arbitration::Arbitration;
 pub use bus::arbitration::ArbitrationInput;
 pub use bus::commit::BusInput;
+pub use bus::hold::HoldInput;
 pub use console::Cgb;
 pub use fall_edge::FallInput;
 pub use map_write::WriteInput;
@@ -65,12 +73,15 @@ pub use answers::BusOutcome;
 pub use answers::ByteAnswer;
 pub use answers::ClaimAnswer;
 pub use answers::ConflictAnswer;
+pub use answers::CycleAnswer;
+pub use answers::Cycled;
 pub use answers::Done;
 pub use answers::DoneAnswer;
 pub use answers::Fell;
 pub use answers::FlagAnswer;
 pub use answers::Flagged;
 pub use answers::Handed;
+pub use answers::ObjectDmaAnswer;
 pub use answers::PairAnswer;
 pub use answers::StatusAnswer;
 pub use answers::SwitchAnswer;

@@ -9,12 +9,14 @@ use lib.Dec.{eqb, ltb}
 use borrow.Author.Tests.{eqb-true}
 use Rattle.console.specs.Reached.{unreached}
 use Rattle.console.specs.Refusals.{Reason, _⇒_, firstOf, answered}
-use Rattle.console.specs.Set.{withVramDma, withDmaOam, withSwitchRelockDebit}
+use Rattle.console.specs.Set.{withVramDma, withDmaOam, withSwitchRelockDebit, withObjectDma}
 use Rattle.console.specs.declared.Cgb.{Cgb}
 use Rattle.console.proofs.Refusals.{NoneHolds, without, none-holds, never-first}
 use Rattle.memory.specs.Lengths.{wramLength, wrongLength}
 use Rattle.bus.specs.declared.arbitration.Arbitration.{Arbitration}
 use Rattle.bus.specs.declared.arbitration.Arbitration.the-variants as bus
+use Rattle.bus.specs.declared.arbitration.ArbitrationInput.{ArbitrationInput}
+use Rattle.bus.specs.declared.commit.BusInput.{BusInput}
 use Rattle.fall_stages.specs.declared.FallInput.{FallInput}
 use Rattle.registers.specs.Map.{Place, placeOf, readable, writable}
 use Rattle.map_write.specs.Write.{mapWriteOf}
@@ -31,10 +33,10 @@ use Rattle.transfer.specs.declared.Conflict.the-variants as found
 use Rattle.transfer.specs.declared.pair.BytePair.{BytePair}
 use Rattle.transfer.specs.declared.pair.NextAnswer.{NextAnswer}
 use Rattle.transfer.specs.declared.pair.NextAnswer.the-variants as next
-use Rattle.engine.specs.Calls.{readRefusal, writeRefusal, accessRefusal, writeOf, fallen, fallRefusal, fallenState, fallCallOf, pairAnswerOf}
-use Rattle.engine.specs.Calls.{nextPairOf, takenIn, wrongLengths, busRefusal, busPairs, busState, arbitrationAnswerOf, arbitrated, arbitrationCallOf}
+use Rattle.engine.specs.Calls.{pageAbove, readRefusal, writeRefusal, accessRefusal, writeOf, fallen, fallRefusal, fallenState, fallCallOf, pairAnswerOf}
+use Rattle.engine.specs.Calls.{Lengths, nextPairOf, takenIn, wrongLengths, busRefusal, busPairs, busState, arbitrationAnswerOf, arbitrated, arbitrationCallOf}
 use Rattle.engine.specs.Calls.{switchAnswerOf, defers, switchRefusal, switchCallOf, blackoutCallOf, wakeCallOf, escapeDrainOf, lcdCallOf}
-use Rattle.engine.specs.Calls.{retiredCallOf, conflictAnswerOf, conflictCallOf}
+use Rattle.engine.specs.Calls.{retiredCallOf, conflictAnswerOf, conflictCallOf, insideArbitration, insideBus, cycleRefusal, afterCycle, cycleState}
 use Rattle.answers.specs.Answers.{Said, kept, stateRefusal}
 use Rattle.answers.specs.Answers.{doneSays, flagSays, claimSays, tellsCommit, pairSays, switchSays, arbitrationSays, conflictSays}
 use Rattle.answers.specs.declared.ArbitrationAnswer.{ArbitrationAnswer}
@@ -129,6 +131,17 @@ by-number k s = by (eqb k 0) refl
     by true e = ap (λ (n : ℕ). declined n s) (eqb-true k 0 e)
     by false e = refl
 
+-- a number, and another state where there is none
+by-state : (k : ℕ) (s t : Cgb) → _≡_ {A = Outcome} (record { reply = handing k []; state = kept k s t }) (decided k s (quiet t))
+unfolding decided
+by-state k s t = by (eqb k 0) refl
+  where
+    by :
+        (b : Bool) → eqb k 0 ≡ b →
+        _≡_ {A = Outcome} (record { reply = handing k []; state = cond b t s }) (cond b (accepting (quiet t)) (declined k s))
+    by true e = ap (λ (n : ℕ). record { reply = handing n []; state = t }) (eqb-true k 0 e)
+    by false e = refl
+
 by-pairs :
     (k : ℕ) (ps : List BytePair) (s t : Cgb) →
     _≡_ {A = Outcome} (record { reply = handing k (cond (eqb k 0) ps []); state = kept k s t }) (decided k s (giving ps t))
@@ -193,8 +206,11 @@ conflict-reads (found.Source a) t = refl
 conflict-reads found.None t = refl
 
 -- the reasons to decline a call besides 7, which comes first
-abbrev pub accessReasons : (Place → Bool) → ℕ → ℕ → List Reason
-accessReasons map n a = (wrongLength wramLength n ⇒ 2) ∷ (not (map (placeOf a)) ⇒ 4) ∷ []
+abbrev pub accessReasons : (Place → Bool) → List Reason → ℕ → ℕ → List Reason
+accessReasons map more n a = (wrongLength wramLength n ⇒ 2) ∷ (not (map (placeOf a)) ⇒ 4) ∷ more
+
+abbrev pub lengthReasons : Lengths → List Reason
+lengthReasons n = (wrongLengths (n .cartridge) (n .wram) (n .vram) (n .oam) ⇒ 2) ∷ []
 
 abbrev pub fallReasons : Cgb → FallInput → List Reason
 fallReasons s i = (ltb 3 (i .mode) ⇒ 1) ∷ (fallen s i .refused ⇒ 14) ∷ []
@@ -208,12 +224,12 @@ switchReasons s i =
     (defers s ⇒ 13) ∷ []
 
 abbrev pub reasonsOf : Cgb → Call → List Reason
-reasonsOf s (Calls.write a w n byte) = accessReasons writable n a
-reasonsOf s (Calls.read a n) = accessReasons readable n a
+reasonsOf s (Calls.write a w n byte) = accessReasons writable ((pageAbove (w .value) a ⇒ 21) ∷ []) n a
+reasonsOf s (Calls.read a n) = accessReasons readable [] n a
 reasonsOf s (Calls.fall i) = fallReasons s i
 reasonsOf s Calls.next-pair = []
 reasonsOf s Calls.escape-drain = []
-reasonsOf s (Calls.bus-call i n) = (wrongLengths (n .cartridge) (n .wram) (n .vram) (n .oam) ⇒ 2) ∷ []
+reasonsOf s (Calls.bus-call i n) = lengthReasons n
 reasonsOf s (Calls.switch-speed i) = switchReasons s i
 reasonsOf s Calls.lcd-off = []
 reasonsOf s Calls.retired = []
@@ -222,9 +238,19 @@ reasonsOf s (Calls.wake boundary) = []
 reasonsOf s (Calls.arbitrate i) = []
 reasonsOf s (Calls.conflict a) = []
 reasonsOf s (Calls.query q) = []
+reasonsOf s (Calls.arbitrate-inside i) = []
+reasonsOf s (Calls.bus-call-inside i n) = lengthReasons n
+reasonsOf s (Calls.object-dma-cycle a n) = lengthReasons n
 
 abbrev pub numberOf : Cgb → Call → ℕ
 numberOf s c = firstOf ((unreached s ⇒ 7) ∷ reasonsOf s c)
+
+-- what a bus call gives, of either form, and what arbitration does
+abbrev pub bussed : Cgb → BusInput → Given
+bussed s i = giving (takenIn s i .pairs) (withVramDma (takenIn s i .dma) s)
+
+abbrev pub contending : Cgb → ArbitrationInput → Given
+contending s i = quiet (withVramDma (withDmaOam (arbitrated s i .oam) (s .«vram_dma»)) s)
 
 -- what it gives where it is accepted
 abbrev pub givenBy : Cgb → Call → Given
@@ -234,16 +260,19 @@ givenBy s (Calls.fall i) =
     record { pairs = []; cut = false; committed = fallen s i .claim .committed; state = fallenState (fallen s i) s }
 givenBy s Calls.next-pair = giving (pairOf (nextByteOf (s .«vram_dma») .answer)) (withVramDma (nextByteOf (s .«vram_dma») .dma) s)
 givenBy s Calls.escape-drain = giving (pairOf (drainOf (s .«vram_dma») .answer)) (withVramDma (drainOf (s .«vram_dma») .dma) s)
-givenBy s (Calls.bus-call i n) = giving (takenIn s i .pairs) (withVramDma (takenIn s i .dma) s)
+givenBy s (Calls.bus-call i n) = bussed s i
 givenBy s (Calls.switch-speed i) =
     record { pairs = []; cut = cuts (switchedOf i s .outcome); committed = false; state = switchedOf i s .state }
 givenBy s Calls.lcd-off = quiet (withVramDma (lcdDisabledOf (s .«vram_dma»)) (withSwitchRelockDebit false s))
 givenBy s Calls.retired = quiet (withVramDma (retiredOf (s .«vram_dma»)) s)
 givenBy s (Calls.blackout elapsed) = quiet (drainedOf elapsed s .state)
 givenBy s (Calls.wake boundary) = quiet (wokenOf boundary s .state)
-givenBy s (Calls.arbitrate i) = quiet (withVramDma (withDmaOam (arbitrated s i .oam) (s .«vram_dma»)) s)
+givenBy s (Calls.arbitrate i) = contending s i
 givenBy s (Calls.conflict a) = quiet s
 givenBy s (Calls.query q) = quiet s
+givenBy s (Calls.arbitrate-inside i) = contending s (insideArbitration s i)
+givenBy s (Calls.bus-call-inside i n) = bussed s (insideBus s i)
+givenBy s (Calls.object-dma-cycle a n) = quiet (withObjectDma (afterCycle a (s .«object_dma»)) s)
 
 -- what the calls compute with: to open one of these is to open all that it names
 opens-calls : Unit {0}
@@ -251,7 +280,7 @@ unfolding writeOf fallCallOf nextPairOf escapeDrainOf switchCallOf lcdCallOf ret
 opens-calls = tt
 
 opens-bus : Unit {0}
-unfolding busPairs busState arbitrationCallOf conflictCallOf
+unfolding busPairs busState arbitrationCallOf conflictCallOf cycleState
 opens-bus = tt
 
 opens-numbers : Unit {0}
@@ -266,7 +295,7 @@ module _ (s : Cgb) where
   pub step-is : (c : Call) → step s c ≡ decided (numberOf s c) s (givenBy s c)
   unfolding step opens-calls opens-bus opens-numbers
   step-is (Calls.write a w n byte) =
-      by-answer (λ (x : DoneAnswer) t. plain (doneSays x) t) done.Refused (writeRefusal s n a) done.Done s _ _ refl refl
+      by-answer (λ (x : DoneAnswer) t. plain (doneSays x) t) done.Refused (writeRefusal s (w .value) n a) done.Done s _ _ refl refl
   step-is (Calls.read a n) = by-number (readRefusal s n a) s
   step-is (Calls.fall i) = by-answer fellReads claim.Refused (fallRefusal s i) _ s _ _ refl refl
   step-is Calls.next-pair = by-answer handedReads pair.Refused (stateRefusal s) _ s _ _ (handed (nextByteOf (s .«vram_dma») .answer) _) refl
@@ -283,6 +312,11 @@ module _ (s : Cgb) where
   step-is (Calls.conflict a) =
       by-answer (λ (x : ConflictAnswer) t. plain (conflictSays x) s) conflict.Refused (stateRefusal s) _ s s _
       (conflict-reads (conflictOf (s .«double_speed») a (s .«vram_dma»)) s) refl
+  step-is (Calls.arbitrate-inside i) =
+      by-answer (λ (x : ArbitrationAnswer) t. plain (arbitrationSays x) t) arbitration.Refused (stateRefusal s) _ s _ _
+      (arbitrated-reads (arbitrated s (insideArbitration s i) .answer) _) refl
+  step-is (Calls.bus-call-inside i n) = by-pairs (busRefusal s n) (takenIn s (insideBus s i) .pairs) s _
+  step-is (Calls.object-dma-cycle a n) = by-state (cycleRefusal s n) s _
   step-is (Calls.query q) = ap (λ (n : ℕ). declined n s) (query-says q) ∙ by-number (stateRefusal s) s
 
   -- no reason has the number 0, and none but the first has 7
@@ -301,6 +335,9 @@ module _ (s : Cgb) where
   numbered (Calls.arbitrate i) = (refl, refl)
   numbered (Calls.conflict a) = (refl, refl)
   numbered (Calls.query q) = (refl, refl)
+  numbered (Calls.arbitrate-inside i) = (refl, refl)
+  numbered (Calls.bus-call-inside i n) = (refl, refl)
+  numbered (Calls.object-dma-cycle a n) = (refl, refl)
 
   -- what holds of both ends holds of the call
   pub either-way :

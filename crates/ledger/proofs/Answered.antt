@@ -2,14 +2,16 @@
 -- calls.txt.
 use mathlib.Core.Path.{_≡_, refl, ap}
 use Rattle.console.specs.declared.Cgb.{Cgb}
-use Rattle.answers.specs.Answers.{Said, stateRefusal, tallySays, statusSays, claimSays, flagSays, byteSays}
-use Rattle.engine.specs.Calls.{querySaid, tallyCallOf, statusCallOf, claimCallOf, flagOf, byteOf, parkWaits, requestStands, cpuHeld}
-use Rattle.engine.specs.Calls.{busSeized, switchInProgress, dividerRuns, atDoubleSpeed, cpuSteps, bankSelected, svbkWritten}
+use Rattle.answers.specs.Answers.{Said, stateRefusal, tallySays, statusSays, claimSays, flagSays, byteSays, objectDmaSays}
+use Rattle.engine.specs.Calls.{querySaid, tallyCallOf, statusCallOf, claimCallOf, flagOf, byteOf, objectDmaCallOf, parkWaits}
+use Rattle.engine.specs.Calls.{requestStands, cpuHeld, busSeized, switchInProgress, dividerRuns, atDoubleSpeed, cpuSteps, bankSelected}
+use Rattle.engine.specs.Calls.{svbkWritten}
 use Rattle.answers.specs.declared.TallyAnswer.the-variants as tally
 use Rattle.answers.specs.declared.StatusAnswer.the-variants as status
 use Rattle.answers.specs.declared.ClaimAnswer.the-variants as claim
 use Rattle.answers.specs.declared.FlagAnswer.the-variants as flag
 use Rattle.answers.specs.declared.ByteAnswer.the-variants as byte
+use Rattle.answers.specs.declared.ObjectDmaAnswer.the-variants as objectDma
 use Rattle.told.proofs.Says.{says-number}
 use Rattle.ask.specs.Ask.{askedOf}
 use Rattle.call.specs.declared.query.Query.{Query}
@@ -32,10 +34,11 @@ answered-is (by.by-double-speed r m) = ap flagSays (m .told .is)
 answered-is (by.by-cpu-steps-per-dot r m) = ap byteSays (m .told .is)
 answered-is (by.by-wram-bank r m) = ap byteSays (m .told .is)
 answered-is (by.by-svbk-register r m) = ap byteSays (m .told .is)
+answered-is (by.by-object-dma r m) = ap objectDmaSays (m .told .is)
 
 module _ (s : Cgb) where
   pub some-answer : (q : Query) → Answered s q (askedOf s q)
-  unfolding askedOf querySaid tallyCallOf statusCallOf claimCallOf flagOf byteOf
+  unfolding askedOf querySaid tallyCallOf statusCallOf claimCallOf flagOf byteOf objectDmaCallOf
   some-answer query.Tally =
       by.by-tally (tallyCallOf s)
       (record { exit = (s, tt); told = record { is = refl; says = says-number tallySays tally.Refused (stateRefusal s) _ _ refl (λ n. refl) } })
@@ -75,3 +78,6 @@ module _ (s : Cgb) where
   some-answer query.SvbkRegister =
       by.by-svbk-register (byteOf s (svbkWritten s))
       (record { exit = (s, tt); told = record { is = refl; says = says-number byteSays byte.Refused (stateRefusal s) _ _ refl (λ n. refl) } })
+  some-answer query.ObjectDma =
+      by.by-object-dma (objectDmaCallOf s)
+      (record { exit = (s, tt); told = record { is = refl; says = says-number objectDmaSays objectDma.Refused (stateRefusal s) _ _ refl (λ n. refl) } })

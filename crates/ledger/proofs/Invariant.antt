@@ -27,7 +27,7 @@ use Rattle.transfer.specs.declared.pair.BytePair.{BytePair}
 use Rattle.transfer.specs.declared.pair.NextAnswer.the-variants as next
 use Rattle.transfer.specs.declared.pair.NextByte.{NextByte}
 use Rattle.transfer.proofs.PairSteps.{pair-steps}
-use Rattle.engine.specs.Calls.{fallen, fallenState}
+use Rattle.engine.specs.Calls.{fallen, fallenState, insideBus}
 use Rattle.ledger.specs.LedgerInput.{Configuration, LedgerInput, a-write, a-fall, a-switch, a-drain, another, Reply, accepts, isFall, isDrain}
 use Rattle.ledger.specs.Ledger.{Ledger, afterCut, effect, afterPairs, afterCall}
 use Rattle.ledger.specs.Calls
@@ -245,6 +245,10 @@ module _ (k : Configuration) (s : Cgb) (l : Ledger) (n : ℕ) (i : Invariant k s
   accepted-laws (Calls.arbitrate x) none = quiet-laws (givenBy s (Calls.arbitrate x) .state) refl refl
   accepted-laws (Calls.conflict a) none = quiet-laws s refl refl
   accepted-laws (Calls.query q) none = quiet-laws s refl refl
+  accepted-laws (Calls.arbitrate-inside x) none = quiet-laws (givenBy s (Calls.arbitrate-inside x) .state) refl refl
+  accepted-laws (Calls.bus-call-inside x y) none =
+      giving-laws _ _ (bus-match k (s .«dmg_compat») (insideBus s x) (s .«vram_dma») l (i .agree))
+  accepted-laws (Calls.object-dma-cycle a y) none = quiet-laws (givenBy s (Calls.object-dma-cycle a y) .state) refl refl
 
   -- and declined
   pub keeps : (c : Call) → CallLaws k l n (ledgerInput c) (step s c)

@@ -8,10 +8,13 @@ use contract.Lifetimes.{Lfts}
 use denote.Ref.{RefT, now}
 use Rattle.console.specs.PowerOn.{powerOnOf}
 use Rattle.console.specs.declared.Cgb.{Cgb}
+use Rattle.bus.specs.declared.arbitration.Arbitration.{Arbitration}
 use Rattle.bus.specs.declared.commit.BusInput.{BusInput}
+use Rattle.bus.specs.declared.hold.HoldInput.{HoldInput}
 use Rattle.map_write.specs.declared.WriteInput.{WriteInput}
 use Rattle.engine.specs.Calls.{readOf, writeOf, writeWram, fallCallOf, nextPairOf, lengthsOf, busVram, busOam, busOf, arbitrationCallOf}
 use Rattle.engine.specs.Calls.{switchCallOf, blackoutCallOf, wakeCallOf, escapeDrainOf, lcdCallOf, retiredCallOf, conflictCallOf}
+use Rattle.engine.specs.Calls.{Lengths, insideArbitration, insideBus, cycleOam, cycleOf}
 use Rattle.ledger.proofs.Answered.{some-answer}
 use Rattle.ledger.specs.Calls
 use Rattle.ledger.specs.Calls.{Call, Outcome, step}
@@ -45,6 +48,15 @@ some-by {o = o} r = record { outcome = o; returned = r }
 sized : (P : ℕ → Type 0) (n : ℕ) → ((bytes : List ℕ) → P (length bytes)) → P n
 sized P n f = subst P (length-replicate {A = ℕ} n 0) (f (replicate n 0))
 
+-- some four lists have these lengths
+sized-four : (P : Lengths → Type 0) (n : Lengths) → ((c w v o : List ℕ) → P (lengthsOf c w v o)) → P n
+sized-four P n f =
+    sized (λ k. P (record { cartridge = k; wram = n .wram; vram = n .vram; oam = n .oam })) (n .cartridge) (λ c.
+    sized (λ k. P (record { cartridge = length c; wram = k; vram = n .vram; oam = n .oam })) (n .wram) (λ w.
+    sized (λ k. P (record { cartridge = length c; wram = length w; vram = k; oam = n .oam })) (n .vram) (λ v.
+    sized (λ k. P (record { cartridge = length c; wram = length w; vram = length v; oam = k })) (n .oam) (λ o.
+    f c w v o))))
+
 module _ (s : Cgb) where
   write-some : (a : ℕ) (w : WriteInput) (byte : _) (wram : List ℕ) → Some s (Calls.write a w (length wram) byte)
   unfolding slice κ1
@@ -74,15 +86,32 @@ module _ (s : Cgb) where
         told = record { result = refl; says = told.bus-told s i c w v o; stored = refl; deposit = refl };
       }))
 
+  bus-inside-some : (i : HoldInput) (c w v o : List ℕ) → Some s (Calls.bus-call-inside i (lengthsOf c w v o))
+  unfolding slice κ4
+  bus-inside-some i c w v o =
+      let n = lengthsOf c w v o in
+      let given = insideBus s i in
+      some-by
+      (Code.by-bus-call-inside κ4 i (slice c) (slice w) (slice v) (slice o) (busOf s given c w v o)
+      (record {
+        exit = (s, (i, (slice c, (slice w, (slice (busVram s given n c w v), (slice (busOam s given n c w o), tt))))));
+        told = record { result = refl; says = told.bus-told s given c w v o; stored = refl; deposit = refl };
+      }))
+
+  cycle-some : (a : Arbitration) (c w v o : List ℕ) → Some s (Calls.object-dma-cycle a (lengthsOf c w v o))
+  unfolding slice κ4
+  cycle-some a c w v o =
+      some-by
+      (Code.by-object-dma-cycle κ4 a (slice c) (slice w) (slice v) (slice o) (cycleOf s a c w v o)
+      (record {
+        exit = (s, (a, (slice c, (slice w, (slice v, (slice (cycleOam s a (lengthsOf c w v o) c w v o), tt))))));
+        told = record { result = refl; says = told.cycle-told s a c w v o; stored = refl };
+      }))
+
   pub some-call : (c : Call) → Some s c
   some-call (Calls.write a w n byte) = sized (λ k. Some s (Calls.write a w k byte)) n (write-some a w byte)
   some-call (Calls.read a n) = sized (λ k. Some s (Calls.read a k)) n (read-some a)
-  some-call (Calls.bus-call i n) =
-      sized (λ k. Some s (Calls.bus-call i (record { cartridge = k; wram = n .wram; vram = n .vram; oam = n .oam }))) (n .cartridge) (λ c.
-      sized (λ k. Some s (Calls.bus-call i (record { cartridge = length c; wram = k; vram = n .vram; oam = n .oam }))) (n .wram) (λ w.
-      sized (λ k. Some s (Calls.bus-call i (record { cartridge = length c; wram = length w; vram = k; oam = n .oam }))) (n .vram) (λ v.
-      sized (λ k. Some s (Calls.bus-call i (record { cartridge = length c; wram = length w; vram = length v; oam = k }))) (n .oam) (λ o.
-      bus-some i c w v o))))
+  some-call (Calls.bus-call i n) = sized-four (λ m. Some s (Calls.bus-call i m)) n (bus-some i)
   some-call (Calls.fall i) =
       some-by (Code.by-fall i (fallCallOf s i) (record { exit = (s, (i, tt)); told = record { is = refl; says = told.fall-told s i } }))
   some-call Calls.next-pair =
@@ -107,6 +136,13 @@ module _ (s : Cgb) where
       some-by (Code.by-arbitrate i (arbitrationCallOf s i) (record { exit = (s, (i, tt)); told = record { is = refl; says = told.arbitrate-told s i } }))
   some-call (Calls.conflict a) =
       some-by (Code.by-conflict a (conflictCallOf s a) (record { exit = (s, (a, tt)); told = record { is = refl; says = told.conflict-told s a } }))
+  some-call (Calls.arbitrate-inside i) =
+      let given = insideArbitration s i in
+      some-by
+      (Code.by-arbitrate-inside i (arbitrationCallOf s given)
+      (record { exit = (s, (i, tt)); told = record { is = refl; says = told.arbitrate-told s given } }))
+  some-call (Calls.bus-call-inside i n) = sized-four (λ m. Some s (Calls.bus-call-inside i m)) n (bus-inside-some i)
+  some-call (Calls.object-dma-cycle a n) = sized-four (λ m. Some s (Calls.object-dma-cycle a m)) n (cycle-some a)
   some-call (Calls.query q) = some-by (Code.by-query q _ (some-answer s q))
 
 some : (k : Configuration) (calls : List Call) → RunOf k calls

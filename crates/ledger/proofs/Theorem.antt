@@ -11,14 +11,15 @@ use Rattle.console.specs.Reached.{unreached}
 use Rattle.console.specs.declared.Cgb.{Cgb}
 use Rattle.bus.specs.Commit.{holdsBus, setupStands}
 use Rattle.bus.specs.declared.commit.BusInput.{BusInput}
+use Rattle.bus.specs.declared.hold.HoldInput.{HoldInput}
 use Rattle.transfer.specs.Pair.{movingOf, quotaOf}
 use Rattle.transfer.specs.declared.VramDmaStatus.the-variants as dma
 use Rattle.transfer.specs.declared.pair.BytePair.{BytePair}
-use Rattle.engine.specs.Calls.{Lengths, busRefusal, statusCallOf}
+use Rattle.engine.specs.Calls.{Lengths, busRefusal, statusCallOf, insideBus}
 use Rattle.answers.specs.declared.StatusAnswer.the-variants.{Status}
 use Rattle.ledger.specs.LedgerInput.{Configuration, accepts, isFall}
 use Rattle.ledger.specs.Ledger.{Ledger, empty, effect}
-use Rattle.ledger.specs.Calls.{Call, Outcome, bus-call, step, ledgerInput}
+use Rattle.ledger.specs.Calls.{Call, Outcome, bus-call, bus-call-inside, BusCall, from-outside, from-inside, step, ledgerInput}
 use Rattle.ledger.specs.Code.{Returned}
 use Rattle.ledger.specs.Demand3.{Event, History, then, RunsTo, at-power-on, called, Standing, running, enters, ledgerOf}
 use Rattle.ledger.specs.Demand3.{acceptedFall, pairsSinceFall, NextPairs, Balanced, generalPairs, Demand3}
@@ -132,18 +133,31 @@ fresh h f s (called {s = t} c o r returned) =
     is-fall : Bool
     is-fall = isFall (ledgerInput c)
 
-pub at-bus :
+-- the pairs of a bus call, by what it gives
+of-bus :
     (s : Cgb) → unreached s ≡ false → quota s ≡ quotaOf (movingOf (s .«vram_dma»)) (s .«double_speed») →
-    (i : BusInput) (n : Lengths) (o : Outcome) → Returned s (bus-call i n) o → accepts (o .reply) ≡ true →
+    (i : BusInput) (n : Lengths) (o : Outcome) → o ≡ step s (bus-call i n) → accepts (o .reply) ≡ true →
     holdsBus i ≡ true → (left : ℕ) → statusCallOf s ≡ Status (dma.General left) → setupStands (s .«vram_dma») ≡ false →
     length (o .reply .pairs) ≡ generalPairs s
 unfolding step
-at-bus s passes q i n o r accepted held left general no-cell =
-    let is : o ≡ step s (bus-call i n) = returned-step r in
+of-bus s passes q i n o is accepted held left general no-cell =
     let a : eqb (busRefusal s n) 0 ≡ true = sym (ap (λ (x : Outcome). accepts (x .reply)) is) ∙ accepted in
     ap (λ (x : Outcome). length (x .reply .pairs)) is
     ∙ ap (λ (ps : List BytePair). length ps) (held-pairs s i n a held no-cell)
     ∙ general-count s passes q (mode-of s left general)
+
+-- a bus call from inside is the bus call with the state's start edge
+inside-is : (s : Cgb) (i : HoldInput) (n : Lengths) → step s (bus-call-inside i n) ≡ step s (bus-call (insideBus s i) n)
+unfolding step
+inside-is s i n = refl
+
+pub at-bus :
+    (s : Cgb) → unreached s ≡ false → quota s ≡ quotaOf (movingOf (s .«vram_dma»)) (s .«double_speed») →
+    (c : Call) (i : BusInput) → BusCall s c i → (o : Outcome) → Returned s c o → accepts (o .reply) ≡ true →
+    holdsBus i ≡ true → (left : ℕ) → statusCallOf s ≡ Status (dma.General left) → setupStands (s .«vram_dma») ≡ false →
+    length (o .reply .pairs) ≡ generalPairs s
+at-bus s passes q c i (from-outside j n) o r = of-bus s passes q j n o (returned-step r)
+at-bus s passes q c i (from-inside j n) o r = of-bus s passes q (insideBus s j) n o (returned-step r ∙ inside-is s j n)
 
 -- each pointer is the ledger's, whose width is kept
 widths : (s : Cgb) (w : Standing) → Speaks s w → (s .«vram_dma» .cursor .source < 65536) × (s .«vram_dma» .cursor .dest < 65536)

@@ -20,7 +20,7 @@ use Rattle.transfer.specs.Pair.{nextByteOf}
 use Rattle.transfer.specs.declared.pair.NextAnswer.{NextAnswer}
 use Rattle.transfer.specs.declared.pair.NextAnswer.the-variants as next
 use Rattle.bus.specs.Deposit.{noPair}
-use Rattle.engine.specs.Calls.{readSaid, Lengths, lengthsOf, takenIn, busRefusal, busPairs, busAnswer, busState, busOf}
+use Rattle.engine.specs.Calls.{readSaid, Lengths, lengthsOf, takenIn, busRefusal, busPairs, busAnswer, busState, busOf, insideBus, cycleSaid, cycleOf}
 use Rattle.answers.specs.Answers.{Said, busSays, conflictSays}
 use Rattle.answers.specs.declared.BusAnswer.the-variants.{Moved, Refused}
 use Rattle.answers.specs.declared.ConflictAnswer.{ConflictAnswer}
@@ -30,6 +30,7 @@ use Rattle.ledger.specs.Calls.{Call, Outcome, handing, plain, ofDone, of
 use Rattle.ledger.specs.Calls.{ofBussed, movedIn, step}
 use Rattle.ledger.specs.Code.{Returned, by-write, by-read, by-fall, by-next-pair, by-escape-drain, by-bus-call, by-switch-speed}
 use Rattle.ledger.specs.Code.{by-lcd-off, by-retired, by-blackout, by-wake, by-arbitrate, by-conflict, by-query}
+use Rattle.ledger.specs.Code.{by-arbitrate-inside, by-bus-call-inside, by-object-dma-cycle}
 use Rattle.ledger.proofs.AcceptedOrDeclined.{reasonsOf}
 use Rattle.ledger.proofs.BusKinds.{of-each}
 
@@ -84,7 +85,7 @@ module _ (s : Cgb) (i : BusInput) (n : Lengths) where
       by false e = refl
 
 pub returned-step : {s : Cgb} {c : Call} {o : Outcome} → Returned s c o → o ≡ step s c
-unfolding step readSaid busOf
+unfolding step readSaid busOf cycleSaid cycleOf
 returned-step (by-write κs wram a w byte r m) = ap ofDone (m .told .result)
 returned-step {s = s} (by-read κs wram a r m) = ap (λ (x : Said). plain x s) (m .told .says)
 returned-step (by-fall i r m) = ap ofFell (m .told .is)
@@ -100,3 +101,7 @@ returned-step (by-wake boundary r m) = ap ofFlagged (m .told .is)
 returned-step (by-arbitrate i r m) = ap ofArbitrated (m .told .is)
 returned-step {s = s} (by-conflict a r m) = ap (λ (x : ConflictAnswer). plain (conflictSays x) s) (m .told .is)
 returned-step {s = s} (by-query q said m) = ap (λ (x : Said). plain x s) (answered-is m)
+returned-step (by-arbitrate-inside i r m) = ap ofArbitrated (m .told .is)
+returned-step {s = s} (by-bus-call-inside κs i cartridge wram vram oam r m) =
+    ap ofBussed (m .told .result) ∙ bus-reply s (insideBus s i) (lengthsOf (now cartridge) (now wram) (now vram) (now oam))
+returned-step (by-object-dma-cycle κs a cartridge wram vram oam r m) = λ k. plain (m .told .says k) (m .told .result k .state)

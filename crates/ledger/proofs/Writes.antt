@@ -10,7 +10,7 @@ use Rattle.hdma.specs.Hdma5.{lengthOf}
 use Rattle.hdma.specs.Pointers.{withHigh, withLow}
 use Rattle.hdma.proofs.Written as hdma
 use Rattle.registers.specs.Map.{KEY0, KEY1, VBK, HDMA1, HDMA2, HDMA3, HDMA4, HDMA5, SVBK, FF72, FF73, FF74, FF75}
-use Rattle.registers.specs.Map.{Place, workRam, bankedRam, extraOam, register, unmapped, placeOf, within, writable, locks, locksAt}
+use Rattle.registers.specs.Map.{Place, workRam, bankedRam, extraOam, register, dmaStart, unmapped, placeOf, within, writable, locks, locksAt}
 use Rattle.map_write.specs.Write.{withSource, withDest, stateAt, storedOf, mapWriteOf}
 use Rattle.map_write.specs.declared.MapWritten.{MapWritten}
 use Rattle.map_write.specs.declared.WriteInput.{WriteInput}
@@ -26,6 +26,7 @@ abbrev follows : Place → Followed
 follows (workRam i) = elsewhere
 follows (bankedRam i) = elsewhere
 follows (extraOam i) = elsewhere
+follows dmaStart = elsewhere
 follows unmapped = elsewhere
 follows (register KEY0) = elsewhere
 follows (register KEY1) = elsewhere
@@ -71,6 +72,7 @@ same-map a = by (eqb a 0xFF51) (eqb a 0xFF52) (eqb a 0xFF53) (eqb a 0xFF54) (eqb
         (both-ways (within 0xE000 0xEFFF a) _ _ refl
         (both-ways (within 0xF000 0xFDFF a) _ _ refl
         (both-ways (within 0xFEA0 0xFEFF a) _ _ refl
+        (both-ways (eqb a 0xFF46) _ _ refl
         (both-ways (eqb a 0xFF4C) _ _ refl
         (both-ways (eqb a 0xFF4D) _ _ refl
         (both-ways (eqb a 0xFF4F) _ _ refl
@@ -82,7 +84,7 @@ same-map a = by (eqb a 0xFF51) (eqb a 0xFF52) (eqb a 0xFF53) (eqb a 0xFF54) (eqb
         (both-ways (eqb a 0xFF70) _ _ refl
         (both-ways (eqb a 0xFF72) _ _ refl
         (both-ways (eqb a 0xFF73) _ _ refl
-        (both-ways (eqb a 0xFF74) _ _ refl (both-ways (eqb a 0xFF75) _ _ refl refl)))))))))))))))))
+        (both-ways (eqb a 0xFF74) _ _ refl (both-ways (eqb a 0xFF75) _ _ refl refl))))))))))))))))))
         ∙ rw (e1, e2, e3, e4, e5)
 
 -- the two ways of writing a byte of a pointer, and of a length
@@ -111,6 +113,7 @@ unlocked-elsewhere : (p : Place) → locks p ≡ false → follows p ≡ elsewhe
 unlocked-elsewhere (workRam i) h = refl
 unlocked-elsewhere (bankedRam i) h = refl
 unlocked-elsewhere (extraOam i) h = refl
+unlocked-elsewhere dmaStart h = refl
 unlocked-elsewhere unmapped h = refl
 unlocked-elsewhere (register KEY0) h = refl
 unlocked-elsewhere (register KEY1) h = refl
@@ -188,6 +191,7 @@ module _ (k : Configuration) (s : Cgb) (w : WriteInput) (byte : w .value < 256) 
   written-match (workRam i) = kept s refl refl
   written-match (bankedRam i) = kept s refl refl
   written-match (extraOam i) = kept (stateAt s w (extraOam i)) refl refl
+  written-match dmaStart = kept (stateAt s w dmaStart) refl refl
   written-match unmapped = kept s refl refl
   written-match (register KEY0) = kept s refl refl
   written-match (register KEY1) = kept (stateAt s w (register KEY1)) refl refl

@@ -1,20 +1,23 @@
--- The calls of H (document 01, section 5: "all those of this document that take the engine's state"), and what each does: a
--- line for each public function, by the definition that its contract cites. A lent slice is here by its length alone: no
--- answer but a byte, and no state, can depend on what it holds.
+-- The calls of H (document 01, section 5: "all those of this document that take the engine's state"; document 02, A1: "These calls
+-- join H"), and what each does: a line for each public function, by the definition that its contract cites. A lent slice is here by
+-- its length alone: no answer but a byte, and no state, can depend on what it holds.
 use Prim.Native.Nat.{ℕ}
 use mathlib.Core.Bool.{Bool, true, false}
 use mathlib.Core.List.{List, [], _∷_}
 use lib.Dec.{T, ltb}
 use lib.ListN.{take}
 use Rattle.console.specs.declared.Cgb.{Cgb}
+use Rattle.bus.specs.declared.arbitration.Arbitration.{Arbitration}
 use Rattle.bus.specs.declared.arbitration.ArbitrationInput.{ArbitrationInput}
 use Rattle.bus.specs.declared.commit.BusInput.{BusInput}
+use Rattle.bus.specs.declared.hold.HoldInput.{HoldInput}
 use Rattle.fall_stages.specs.declared.FallInput.{FallInput}
 use Rattle.map_write.specs.declared.WriteInput.{WriteInput}
 use Rattle.speed_switch.specs.declared.switch.SwitchInput.{SwitchInput}
 use Rattle.transfer.specs.declared.pair.BytePair.{BytePair}
 use Rattle.engine.specs.Calls.{readRefusal, writeOf, fallCallOf, nextPairOf, Lengths, busRefusal, busPairs, busState, arbitrationCallOf}
 use Rattle.engine.specs.Calls.{switchCallOf, blackoutCallOf, wakeCallOf, escapeDrainOf, lcdCallOf, retiredCallOf, conflictCallOf}
+use Rattle.engine.specs.Calls.{insideArbitration, insideBus, cycleRefusal, cycleState}
 use Rattle.answers.specs.Answers.{Said, doneStateSays, flaggedSays, handedSays, fellSays, switchedSays, arbitratedSays, busOutcomeSays}
 use Rattle.answers.specs.Answers.{conflictSays, tellsCommit}
 use Rattle.answers.specs.declared.Arbitrated.{Arbitrated}
@@ -48,6 +51,10 @@ pub data Call : Type 0 where
   arbitrate : (input : ArbitrationInput) → Call
   conflict : (address : ℕ) → Call
   query : Query → Call
+  -- document 02, A1: arbitration and the bus call with object DMA's state from inside, and object DMA's M-cycle call
+  arbitrate-inside : (input : HoldInput) → Call
+  bus-call-inside : (input : HoldInput) (lengths : Lengths) → Call
+  object-dma-cycle : (arbitration : Arbitration) (lengths : Lengths) → Call
 
 -- a call's answer, as demand 3 reads it, and the state that it leaves
 pub record Outcome : Type 0 where
@@ -118,6 +125,15 @@ step s (wake boundary) = ofFlagged (wakeCallOf s boundary)
 step s (arbitrate i) = ofArbitrated (arbitrationCallOf s i)
 step s (conflict a) = plain (conflictSays (conflictCallOf s a)) s
 step s (query q) = plain (askedOf s q) s
+step s (arbitrate-inside i) = ofArbitrated (arbitrationCallOf s (insideArbitration s i))
+step s (bus-call-inside i n) =
+    record { reply = handing (busRefusal s n) (busPairs s (insideBus s i) n); state = busState s (insideBus s i) n }
+step s (object-dma-cycle a n) = record { reply = handing (cycleRefusal s n) []; state = cycleState s a n }
+
+-- a bus call of either form, at the state s, and what it is given
+pub data BusCall (s : Cgb) : Call → BusInput → Type 0 where
+  from-outside : (i : BusInput) (n : Lengths) → BusCall s (bus-call i n) i
+  from-inside : (i : HoldInput) (n : Lengths) → BusCall s (bus-call-inside i n) (insideBus s i)
 
 -- what the ledger and demand 3 read of it
 unfoldable pub ledgerInput : Call → LedgerInput
@@ -135,3 +151,6 @@ ledgerInput (wake boundary) = another
 ledgerInput (arbitrate i) = another
 ledgerInput (conflict a) = another
 ledgerInput (query q) = another
+ledgerInput (arbitrate-inside i) = another
+ledgerInput (bus-call-inside i n) = another
+ledgerInput (object-dma-cycle a n) = another

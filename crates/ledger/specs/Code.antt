@@ -8,17 +8,20 @@ use denote.Ref.{RefT, now}
 use lib.Dec.{T, ltb}
 use lib.ListN.{length}
 use Rattle.console.specs.declared.Cgb.{Cgb}
+use Rattle.bus.specs.declared.arbitration.Arbitration.{Arbitration}
 use Rattle.bus.specs.declared.arbitration.ArbitrationInput.{ArbitrationInput}
 use Rattle.bus.specs.declared.commit.BusInput.{BusInput}
+use Rattle.bus.specs.declared.hold.HoldInput.{HoldInput}
 use Rattle.fall_stages.specs.declared.FallInput.{FallInput}
 use Rattle.map_write.specs.declared.WriteInput.{WriteInput}
 use Rattle.speed_switch.specs.declared.switch.SwitchInput.{SwitchInput}
-use Rattle.answers.specs.Answers.{Said, byteSays, conflictSays}
+use Rattle.answers.specs.Answers.{Said, byteSays, conflictSays, cycledSays}
 use Rattle.engine.specs.Calls.{lengthsOf}
 use Rattle.answers.specs.declared.Arbitrated.{Arbitrated}
 use Rattle.answers.specs.declared.BusOutcome.{BusOutcome}
 use Rattle.answers.specs.declared.ByteAnswer.{ByteAnswer}
 use Rattle.answers.specs.declared.ConflictAnswer.{ConflictAnswer}
+use Rattle.answers.specs.declared.Cycled.{Cycled}
 use Rattle.answers.specs.declared.Done.{Done}
 use Rattle.answers.specs.declared.Fell.{Fell}
 use Rattle.answers.specs.declared.Flagged.{Flagged}
@@ -31,7 +34,7 @@ pub use Rattle.ledger.specs.Function.{Function, Gives}
 use Rattle.ledger.specs.Functions.{write, read, vram-dma-fall-edge, next-byte, vram-dma-drain-escape, vram-dma-commit-bytes}
 use Rattle.ledger.specs.Functions.{attempt-speed-switch, vram-dma-lcd-disabled, vram-dma-instruction-retired}
 use Rattle.ledger.specs.Functions.{drain-speed-switch-blackout, speed-switch-wake-ready, vram-dma-arbitrate-oam}
-use Rattle.ledger.specs.Functions.{vram-dma-conflict-source}
+use Rattle.ledger.specs.Functions.{vram-dma-conflict-source, vram-dma-arbitrate-inside, vram-dma-commit-bytes-inside, object-dma-m-cycle}
 use Rattle.ledger.specs.Answered.{Answered}
 use Rattle.ledger.specs.Calls
 use Rattle.ledger.specs.Calls.{Call, Outcome, plain, ofDone, ofFlagged, ofFell, ofArbitrated, ofHanded, ofSwitched, ofBussed}
@@ -62,3 +65,14 @@ pub data Returned (s : Cgb) : Call → Outcome → Type 0 where
   by-arbitrate : (i : ArbitrationInput) (r : Arbitrated) → Gives vram-dma-arbitrate-oam tt (s, (i, tt)) r → Returned s (Calls.arbitrate i) (ofArbitrated r)
   by-conflict : (a : ℕ) (r : ConflictAnswer) → Gives vram-dma-conflict-source tt (s, (a, tt)) r → Returned s (Calls.conflict a) (plain (conflictSays r) s)
   by-query : (q : Query) (said : Said) → Answered s q said → Returned s (Calls.query q) (plain said s)
+  by-arbitrate-inside :
+      (i : HoldInput) (r : Arbitrated) → Gives vram-dma-arbitrate-inside tt (s, (i, tt)) r →
+      Returned s (Calls.arbitrate-inside i) (ofArbitrated r)
+  by-bus-call-inside :
+      (κs : Lfts 4) (i : HoldInput) (cartridge wram vram oam : RefT (List ℕ)) (r : BusOutcome) →
+      Gives vram-dma-commit-bytes-inside κs (s, (i, (cartridge, (wram, (vram, (oam, tt)))))) r →
+      Returned s (Calls.bus-call-inside i (lengthsOf (now cartridge) (now wram) (now vram) (now oam))) (ofBussed r)
+  by-object-dma-cycle :
+      (κs : Lfts 4) (a : Arbitration) (cartridge wram vram oam : RefT (List ℕ)) (r : Cycled) →
+      Gives object-dma-m-cycle κs (s, (a, (cartridge, (wram, (vram, (oam, tt)))))) r →
+      Returned s (Calls.object-dma-cycle a (lengthsOf (now cartridge) (now wram) (now vram) (now oam))) (plain (cycledSays r) (r .state))

@@ -12,11 +12,11 @@ use Rattle.bus.specs.declared.commit.BusInput.{BusInput}
 use Rattle.transfer.specs.Pair.{leftAfter}
 use Rattle.transfer.specs.declared.VramDmaStatus.the-variants as dma
 use Rattle.transfer.specs.declared.pair.BytePair.{BytePair}
-use Rattle.engine.specs.Calls.{Lengths, statusCallOf, atDoubleSpeed}
+use Rattle.engine.specs.Calls.{statusCallOf, atDoubleSpeed}
 use Rattle.answers.specs.declared.StatusAnswer.the-variants.{Status}
 use Rattle.ledger.specs.LedgerInput.{Configuration, Reply, accepts, isFall, isDrain}
 use Rattle.ledger.specs.Ledger.{Ledger, empty, IsNext, afterPair, effect, afterCall}
-use Rattle.ledger.specs.Calls.{Call, Outcome, bus-call, ledgerInput}
+use Rattle.ledger.specs.Calls.{Call, Outcome, BusCall, ledgerInput}
 use Rattle.ledger.specs.Code.{Gives, power-on, Returned}
 
 -- a call of H, with its answer
@@ -94,10 +94,10 @@ pub record Demand3 : Type 0 where
   -- drains"
   pub at-most-two : (h : History) (s : Cgb) → RunsTo h s → pairsSinceFall h ≤ 2
   -- "An accepted bus call that holds the bus directly after an accepted fall, in status General and taking no set-up cell, hands
-  -- out two pairs at single speed, or one where the first brings left to 0, and one at double"
+  -- out two pairs at single speed, or one where the first brings left to 0, and one at double": a bus call of either form
   pub general :
       (h : History) (f : Event) (s : Cgb) → RunsTo (then h f) s → acceptedFall f ≡ true →
-      (i : BusInput) (n : Lengths) (o : Outcome) → Returned s (bus-call i n) o → accepts (o .reply) ≡ true →
+      (c : Call) (i : BusInput) → BusCall s c i → (o : Outcome) → Returned s c o → accepts (o .reply) ≡ true →
       holdsBus i ≡ true → (left : ℕ) → statusCallOf s ≡ Status (dma.General left) → setupStands (s .«vram_dma») ≡ false →
       length (o .reply .pairs) ≡ generalPairs s
   -- besides: the pointers and the owed escape are the ledger's too, the pointers are 16-bit registers, and no run meets refusal 7

@@ -52,6 +52,14 @@ use Rattle.engine.proofs.wram_bank.Kinds as wram-bank-kinds
 use Rattle.engine.proofs.wram_bank.Reads as wram-bank-reads
 use Rattle.engine.proofs.svbk_register.Kinds as svbk-register-kinds
 use Rattle.engine.proofs.svbk_register.Reads as svbk-register-reads
+use Rattle.engine.proofs.object_dma_m_cycle.Kinds as object-dma-m-cycle-kinds
+use Rattle.engine.proofs.object_dma_m_cycle.Reads as object-dma-m-cycle-reads
+use Rattle.engine.proofs.vram_dma_arbitrate_inside.Kinds as vram-dma-arbitrate-inside-kinds
+use Rattle.engine.proofs.vram_dma_arbitrate_inside.Reads as vram-dma-arbitrate-inside-reads
+use Rattle.engine.proofs.vram_dma_commit_bytes_inside.Kinds as vram-dma-commit-bytes-inside-kinds
+use Rattle.engine.proofs.vram_dma_commit_bytes_inside.Reads as vram-dma-commit-bytes-inside-reads
+use Rattle.engine.proofs.object_dma.Kinds as object-dma-kinds
+use Rattle.engine.proofs.object_dma.Reads as object-dma-reads
 
 abbrev pub write : Function
 write =
@@ -285,4 +293,40 @@ svbk-register =
       parameters = svbk-register-kinds.ps;
       result = svbk-register-kinds.r;
       tells = svbk-register-reads.Learnt;
+    }
+
+abbrev pub object-dma-m-cycle : Function
+object-dma-m-cycle =
+    record {
+      lifetimes = 4;
+      parameters = object-dma-m-cycle-kinds.ps;
+      result = object-dma-m-cycle-kinds.r;
+      tells = object-dma-m-cycle-reads.Learnt;
+    }
+
+abbrev pub vram-dma-arbitrate-inside : Function
+vram-dma-arbitrate-inside =
+    record {
+      lifetimes = 0;
+      parameters = vram-dma-arbitrate-inside-kinds.ps;
+      result = vram-dma-arbitrate-inside-kinds.r;
+      tells = vram-dma-arbitrate-inside-reads.Learnt;
+    }
+
+abbrev pub vram-dma-commit-bytes-inside : Function
+vram-dma-commit-bytes-inside =
+    record {
+      lifetimes = 4;
+      parameters = vram-dma-commit-bytes-inside-kinds.ps;
+      result = vram-dma-commit-bytes-inside-kinds.r;
+      tells = vram-dma-commit-bytes-inside-reads.Learnt;
+    }
+
+abbrev pub object-dma : Function
+object-dma =
+    record {
+      lifetimes = 0;
+      parameters = object-dma-kinds.ps;
+      result = object-dma-kinds.r;
+      tells = object-dma-reads.Learnt;
     }

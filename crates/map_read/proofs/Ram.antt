@@ -8,7 +8,7 @@ use lib.ListN.{getD}
 use Rattle.console.specs.declared.Cgb.{Cgb}
 use Rattle.memory.specs.Wram.{bankedIndex}
 use Rattle.table.specs.Table.{NoneOf, keysOf}
-use Rattle.registers.specs.Map.{Place, workRam, bankedRam, extraOam, register, unmapped, registers, placeOf, readable}
+use Rattle.registers.specs.Map.{Place, workRam, bankedRam, extraOam, register, dmaStart, unmapped, registers, placeOf, readable}
 use Rattle.registers.specs.Ram.{inRam, indexAt, wramIndexOf}
 use Rattle.registers.specs.declared.WramIndex.the-variants.{At, Elsewhere}
 use Rattle.registers.proofs.Places.{at-place, no-register, not-readable}
@@ -27,6 +27,7 @@ module _ (s : Cgb) (wram : List ℕ) where
   from-ram (bankedRam j) i e = rw (at-index (bankedIndex (s .svbk) j) i e)
   from-ram (extraOam j) i e = absurd (not-here i e)
   from-ram (register r) i e = absurd (not-here i e)
+  from-ram dmaStart i e = absurd (not-here i e)
   from-ram unmapped i e = absurd (not-here i e)
 
   pub ram-read : (a i : ℕ) → wramIndexOf (s .svbk) a ≡ At i → mapReadOf s wram a ≡ Byte (getD wram i 0)
@@ -38,6 +39,7 @@ module _ (s : Cgb) (wram : List ℕ) where
   same-byte (bankedRam i) e = absurd (true≢false e)
   same-byte (extraOam i) e = refl
   same-byte (register r) e = refl
+  same-byte dmaStart e = refl
   same-byte unmapped e = refl
 
   pub beyond-ram : (a : ℕ) → wramIndexOf (s .svbk) a ≡ Elsewhere → registerReadOf s a ≡ mapReadOf s wram a

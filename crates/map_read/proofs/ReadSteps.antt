@@ -66,7 +66,8 @@ module _ (s : Cgb) (wram : List ℕ) where
   same-register : (a : ℕ) → (LocksRead a → ⊥) → Same (registerOf a)
   same-register a other =
       each Same a registers unmapped
-      ((λ e. absurd (other (inl e))) ▸
+      ((λ e. refl) ▸
+      (λ e. absurd (other (inl e))) ▸
       (λ e. absurd (other (inr (inl e)))) ▸
       (λ e. refl) ▸ (λ e. refl) ▸ (λ e. refl) ▸ (λ e. refl) ▸ (λ e. refl) ▸ (λ e. refl) ▸
       (λ e. absurd (other (inr (inr (inl e))))) ▸

@@ -7,7 +7,7 @@ use Rattle.console.specs.declared.Cgb.{Cgb}
 use Rattle.hdma.specs.Hdma5.{statusByte}
 use Rattle.memory.specs.Wram.{bankedIndex}
 use Rattle.registers.specs.Map.{Register, KEY0, KEY1, VBK, HDMA1, HDMA2, HDMA3, HDMA4, HDMA5, SVBK, FF72, FF73, FF74, FF75, Place, workRam, bankedRam}
-use Rattle.registers.specs.Map.{extraOam, register, unmapped, placeOf, readable}
+use Rattle.registers.specs.Map.{extraOam, register, dmaStart, unmapped, placeOf, readable}
 use Rattle.registers.specs.Ram.{inRam}
 use Rattle.map_read.specs.declared.MapRead.{MapRead}
 use Rattle.map_read.specs.declared.MapRead.the-variants.{Byte, Unmapped}
@@ -43,6 +43,7 @@ mapByte s wram (workRam i) = getD wram i 0
 mapByte s wram (bankedRam i) = getD wram (bankedIndex (s .svbk) i) 0
 mapByte s wram (extraOam i) = getD (s .«extra_oam») i 0
 mapByte s wram (register r) = registerByte s r
+mapByte s wram dmaStart = 0
 mapByte s wram unmapped = 0
 
 unfoldable pub mapReadOf : Cgb → List ℕ → ℕ → MapRead

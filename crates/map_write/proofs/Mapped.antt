@@ -4,7 +4,7 @@ use mathlib.Core.Path.{_≡_, refl}
 use mathlib.Core.Bool.{Bool, true, false, cond, true≢false}
 use mathlib.Core.List.{List}
 use Rattle.console.specs.declared.Cgb.{Cgb}
-use Rattle.registers.specs.Map.{Place, workRam, bankedRam, extraOam, register, unmapped, placeOf, writable}
+use Rattle.registers.specs.Map.{Place, workRam, bankedRam, extraOam, register, dmaStart, unmapped, placeOf, writable}
 use Rattle.map_write.specs.Write.{wramAt, wramAfter, storedOf, mapWriteOf, locked}
 use Rattle.map_write.specs.declared.WriteInput.{WriteInput}
 
@@ -22,6 +22,7 @@ off-map s wram v (workRam i) h = absurd (true≢false h)
 off-map s wram v (bankedRam i) h = absurd (true≢false h)
 off-map s wram v (extraOam i) h = refl
 off-map s wram v (register r) h = refl
+off-map s wram v dmaStart h = refl
 off-map s wram v unmapped h = refl
 
 -- a write off the map leaves work RAM

@@ -8,7 +8,7 @@ use lib.ListN.{set}
 use Rattle.console.specs.declared.Cgb.{Cgb}
 use Rattle.memory.specs.Wram.{bankedIndex}
 use Rattle.table.specs.Table.{NoneOf, keysOf}
-use Rattle.registers.specs.Map.{Place, workRam, bankedRam, extraOam, register, unmapped, registers, placeOf, writable, locks, locksAt}
+use Rattle.registers.specs.Map.{Place, workRam, bankedRam, extraOam, register, dmaStart, unmapped, registers, placeOf, writable, locks, locksAt}
 use Rattle.registers.specs.Ram.{inRam, indexAt, wramIndexOf}
 use Rattle.registers.specs.declared.WramIndex.the-variants.{At, Elsewhere}
 use Rattle.registers.proofs.Places.{at-place, no-register, not-writable}
@@ -35,6 +35,7 @@ module _ (s : Cgb) (w : WriteInput) where
   in-ram (bankedRam j) i e = (refl, refl)
   in-ram (extraOam j) i e = absurd (not-here i e)
   in-ram (register r) i e = absurd (not-here i e)
+  in-ram dmaStart i e = absurd (not-here i e)
   in-ram unmapped i e = absurd (not-here i e)
 
   -- work RAM is in the map, and no write to it changes the state
@@ -52,6 +53,7 @@ module _ (s : Cgb) (w : WriteInput) where
   not-taken (bankedRam i) e = absurd (true≢false e)
   not-taken (extraOam i) e = absurd (true≢false e)
   not-taken (register r) e = absurd (true≢false e)
+  not-taken dmaStart e = absurd (true≢false e)
   not-taken unmapped e = refl
 
   -- the write off the map
@@ -79,6 +81,7 @@ module _ (s : Cgb) (w : WriteInput) where
   lock-apart (bankedRam i) h = absurd (false≢true h)
   lock-apart (extraOam i) h = absurd (false≢true h)
   lock-apart (register r) h = (refl, refl)
+  lock-apart dmaStart h = absurd (false≢true h)
   lock-apart unmapped h = absurd (false≢true h)
 
   -- under compat a locked register takes the write and keeps the state
@@ -102,6 +105,7 @@ module _ (s : Cgb) (wram : List ℕ) (v : ℕ) where
   into-ram (bankedRam j) i e = rw (at-index (bankedIndex (s .svbk) j) i e)
   into-ram (extraOam j) i e = absurd (not-here i e)
   into-ram (register r) i e = absurd (not-here i e)
+  into-ram dmaStart i e = absurd (not-here i e)
   into-ram unmapped i e = absurd (not-here i e)
 
   pub ram-written : (a i : ℕ) → wramIndexOf (s .svbk) a ≡ At i → wramAfter s wram v a ≡ set wram i v
@@ -113,6 +117,7 @@ module _ (s : Cgb) (wram : List ℕ) (v : ℕ) where
   past-ram (bankedRam i) e = absurd (true≢false e)
   past-ram (extraOam i) e = refl
   past-ram (register r) e = refl
+  past-ram dmaStart e = refl
   past-ram unmapped e = refl
 
   pub ram-kept : (a : ℕ) → wramIndexOf (s .svbk) a ≡ Elsewhere → wramAfter s wram v a ≡ wram

@@ -7,18 +7,18 @@ use lib.ListN.{set}
 use Rattle.console.specs.Set.{withDmgCompat, withExtraOam}
 use Rattle.console.specs.declared.Cgb.{Cgb}
 use Rattle.registers.specs.Map.{Register, KEY0, KEY1, VBK, HDMA1, HDMA2, HDMA3, HDMA4, HDMA5, SVBK, FF72, FF73, FF74, FF75, Place, workRam, bankedRam}
-use Rattle.registers.specs.Map.{extraOam, register, unmapped, placeOf, writable, locks, locksAt}
-use Rattle.registers.specs.MapSteps.{Mapped, LocksWrite}
+use Rattle.registers.specs.Map.{extraOam, register, dmaStart, unmapped, placeOf, writable, locks, locksAt}
+use Rattle.registers.specs.MapSteps.{MappedWrite, LocksWrite}
 use Rattle.registers.proofs.Places.{at-oam}
 use Rattle.registers.proofs.MapSteps.{lock-map, not-lock, not-written}
 use Rattle.map_write.specs.Write.{registerWritten, stateAt, wramAt, wramAfter, storedOf, locked, mapWriteOf}
-use Rattle.map_write.specs.WriteSteps.{withCompat, MapWrites, RegisterWrites, PointerWrites, CompatWrites, MapWriteSteps}
+use Rattle.map_write.specs.WriteSteps.{withCompat, MapWrites, RegisterWrites, PointerWrites, DmaStart, CompatWrites, MapWriteSteps}
 use Rattle.map_write.specs.declared.MapWritten.{MapWritten}
 use Rattle.map_write.specs.declared.WriteInput.{WriteInput}
 use Rattle.map_write.proofs.Ram as ram
 
 module _ (s : Cgb) (wram : List ℕ) (w : WriteInput) (a : ℕ) where
-  unmapped-write : (Mapped a → ⊥) → mapWriteOf s w a ≡ record { mapped = false; state = s }
+  unmapped-write : (MappedWrite a → ⊥) → mapWriteOf s w a ≡ record { mapped = false; state = s }
   unfolding mapWriteOf
   unmapped-write out =
       rw (not-written a out, ram.off-map s w a (not-written a out))
@@ -59,6 +59,11 @@ pub pointer-writes : (s : Cgb) (w : WriteInput) → s .«dmg_compat» ≡ false 
 unfolding mapWriteOf storedOf placeOf locksAt
 pointer-writes s w free = record { ff51 = rw free; ff53 = rw free; ff52 = rw free; ff54 = rw free }
 
+-- compat does not lock it
+dma-start : (s : Cgb) (w : WriteInput) → DmaStart s w
+unfolding mapWriteOf storedOf placeOf locksAt
+dma-start s w = record { starts = rw (and-false (s .«dmg_compat»)) }
+
 module _ (s : Cgb) (wram : List ℕ) (w : WriteInput) where
   abbrev compat : Cgb
   compat = withDmgCompat true s
@@ -87,6 +92,7 @@ module _ (s : Cgb) (wram : List ℕ) (w : WriteInput) where
   stored (bankedRam i) = refl
   stored (extraOam i) = refl
   stored (register r) = written r
+  stored dmaStart = refl
   stored unmapped = refl
 
   same-wram : (p : Place) → wramAt compat wram (w .value) p ≡ wramAt cgbMode wram (w .value) p
@@ -94,6 +100,7 @@ module _ (s : Cgb) (wram : List ℕ) (w : WriteInput) where
   same-wram (bankedRam i) = refl
   same-wram (extraOam i) = refl
   same-wram (register r) = refl
+  same-wram dmaStart = refl
   same-wram unmapped = refl
 
   still : (p : Place) → locks p ≡ true → (writable p ≡ true) × (wramAt compat wram (w .value) p ≡ wram)
@@ -118,4 +125,4 @@ module _ (s : Cgb) (wram : List ℕ) (w : WriteInput) where
 
 pub map-write-steps : MapWriteSteps
 map-write-steps =
-    record { by-address = map-writes; registers = register-writes; pointers = pointer-writes; compat = compat-writes }
+    record { by-address = map-writes; registers = register-writes; pointers = pointer-writes; dma = dma-start; compat = compat-writes }

@@ -6,13 +6,14 @@ use mathlib.Core.List.{List}
 use lib.Dec.{eqb}
 use lib.ListN.{set}
 use Rattle.console.specs.Set.{withCursorSource, withCursorDest, withDmaCursor, withVramDma, withSvbk, withKey1Armed, withVram, withVramSelected}
-use Rattle.console.specs.Set.{withFf72, withFf73, withFf74, withFf75, withExtraOam}
+use Rattle.console.specs.Set.{withFf72, withFf73, withFf74, withFf75, withExtraOam, withObjectDma}
 use Rattle.console.specs.declared.Cgb.{Cgb}
 use Rattle.memory.specs.Wram.{bankedIndex}
 use Rattle.hdma.specs.Pointers.{withHigh, withLow}
 use Rattle.hdma.specs.Hdma5.{hdma5Written}
+use Rattle.object_dma.specs.ObjectDma.{started}
 use Rattle.registers.specs.Map.{Register, KEY0, KEY1, VBK, HDMA1, HDMA2, HDMA3, HDMA4, HDMA5, SVBK, FF72, FF73, FF74, FF75, Place, workRam, bankedRam}
-use Rattle.registers.specs.Map.{extraOam, register, unmapped, placeOf, writable, locksAt}
+use Rattle.registers.specs.Map.{extraOam, register, dmaStart, unmapped, placeOf, writable, locksAt}
 use Rattle.registers.specs.Ram.{inRam}
 use Rattle.map_write.specs.declared.MapWritten.{MapWritten}
 use Rattle.map_write.specs.declared.WriteInput.{WriteInput}
@@ -45,6 +46,7 @@ stateAt s w (workRam i) = s
 stateAt s w (bankedRam i) = s
 stateAt s w (extraOam i) = withExtraOam (set (s .«extra_oam») i (w .value)) s
 stateAt s w (register r) = registerWritten s w r
+stateAt s w dmaStart = withObjectDma (started (w .value) (w .«oam_start_edge»)) s
 stateAt s w unmapped = s
 
 -- work RAM after a write of v to each place
@@ -53,6 +55,7 @@ wramAt s wram v (workRam i) = set wram i v
 wramAt s wram v (bankedRam i) = set wram (bankedIndex (s .svbk) i) v
 wramAt s wram v (extraOam i) = wram
 wramAt s wram v (register r) = wram
+wramAt s wram v dmaStart = wram
 wramAt s wram v unmapped = wram
 
 -- a write where nothing is locked: whether the address is mapped, and the state

@@ -5,12 +5,12 @@ use mathlib.Core.Bool.{true, false}
 use mathlib.Core.List.{List}
 use lib.ListN.{set}
 use Rattle.console.specs.Set.{withDmgCompat, withVramDma, withSvbk, withKey1Armed, withVram, withVramSelected, withFf72, withFf73, withFf74, withFf75}
-use Rattle.console.specs.Set.{withExtraOam}
+use Rattle.console.specs.Set.{withExtraOam, withObjectDma}
 use Rattle.console.specs.declared.Cgb.{Cgb}
 use Rattle.hdma.specs.Pointers.{withHigh, withLow}
 use Rattle.hdma.specs.Hdma5.{hdma5Written}
 use Rattle.registers.specs.Ram.{wramIndexOf}
-use Rattle.registers.specs.MapSteps.{Mapped, LocksWrite}
+use Rattle.registers.specs.MapSteps.{MappedWrite, LocksWrite}
 use Rattle.registers.specs.declared.WramIndex.the-variants.{At, Elsewhere}
 use Rattle.map_write.specs.Write.{withSource, withDest, mapWriteOf, wramAfter}
 use Rattle.map_write.specs.declared.MapWritten.{MapWritten}
@@ -18,7 +18,7 @@ use Rattle.map_write.specs.declared.WriteInput.{WriteInput}
 
 pub record MapWrites (s : Cgb) (wram : List ℕ) (w : WriteInput) (a : ℕ) : Type 0 where
   -- 4: "address not in the call's map"; there a write leaves everything
-  pub unmapped : (Mapped a → ⊥) → mapWriteOf s w a ≡ record { mapped = false; state = s }
+  pub unmapped : (MappedWrite a → ⊥) → mapWriteOf s w a ≡ record { mapped = false; state = s }
   -- the byte of work RAM at the address's index, of which `RamSteps` tells, is replaced, and nothing else
   pub ram : (index : ℕ) → wramIndexOf (s .svbk) a ≡ At index → wramAfter s wram (w .value) a ≡ set wram index (w .value)
   pub ram-state : (index : ℕ) → wramIndexOf (s .svbk) a ≡ At index → mapWriteOf s w a ≡ record { mapped = true; state = s }
@@ -57,6 +57,16 @@ pub record PointerWrites (s : Cgb) (w : WriteInput) : Type 0 where
   pub ff52 : mapWriteOf s w 0xFF52 .state ≡ withSource (withLow (w .value) (s .«vram_dma» .cursor .source)) s
   pub ff54 : mapWriteOf s w 0xFF54 .state ≡ withDest (withLow (w .value) (s .«vram_dma» .cursor .dest)) s
 
+-- FF46 (document 02, A1), with or without compat: object DMA starts, or starts over, with the write's page and edge, and nothing else of
+-- the state changes
+pub record DmaStart (s : Cgb) (w : WriteInput) : Type 0 where
+  pub starts :
+      mapWriteOf s w 0xFF46 ≡
+      record {
+        mapped = true;
+        state = withObjectDma (record { running = true; page = w .value; counted = 0; «start_edge» = w .«oam_start_edge» }) s;
+      }
+
 -- what a write gives, with compat in the state after it
 abbrev pub withCompat : MapWritten → MapWritten
 withCompat m = record { mapped = m .mapped; state = withDmgCompat true (m .state) }
@@ -74,4 +84,5 @@ pub record MapWriteSteps : Type 0 where
   pub by-address : (s : Cgb) (wram : List ℕ) (w : WriteInput) (a : ℕ) → MapWrites s wram w a
   pub registers : (s : Cgb) (w : WriteInput) → s .«dmg_compat» ≡ false → RegisterWrites s w
   pub pointers : (s : Cgb) (w : WriteInput) → s .«dmg_compat» ≡ false → PointerWrites s w
+  pub dma : (s : Cgb) (w : WriteInput) → DmaStart s w
   pub compat : (s : Cgb) (wram : List ℕ) (w : WriteInput) (a : ℕ) → CompatWrites s wram w a

@@ -13,7 +13,10 @@ use registers::wram_index;
 // What a write is given beside the address.
 pub struct WriteInput {
     pub value: u8,
+    // FF55 alone looks at it.
     pub lcd_on: bool,
+    // The master edge at which object DMA starts: FF46 alone looks at it.
+    pub oam_start_edge: u64,
 }
 
 // Whether the address is in the map, and the state after the write.
@@ -32,6 +35,14 @@ fn store_register(mut s: Cgb, address: u16, input: WriteInput) -> MapWritten
             let rows = s.extra_oam;
             let written = extra_oam_with(rows, address, v);
             s.extra_oam = written;
+            MapWritten {
+                mapped: true,
+                state: s,
+            }
+        }
+        0xFF46 => {
+            let object = object_dma::start(v, input.oam_start_edge);
+            s.object_dma = object;
             MapWritten {
                 mapped: true,
                 state: s,

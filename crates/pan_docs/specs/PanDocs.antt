@@ -1,5 +1,5 @@
--- Of what Pan Docs (CGB Registers) says of the registers in scope, the values that `Agreement` compares, in its own terms:
--- bits, banks, addresses, lengths, times. Nothing of the port is imported here.
+-- Of what Pan Docs (CGB Registers; of FF46 OAM DMA Transfer) says of the registers in scope, the values that `Agreement` compares, in its
+-- own terms: bits, banks, addresses, lengths, times. Nothing of the port is imported here.
 use Prim.Native.Nat.{ℕ, _+_, _-_, _*_, _/_, _%_, _^_}
 use mathlib.Core.Bool.{Bool, cond}
 use mathlib.Core.List.{List, [], _∷_}
@@ -71,6 +71,19 @@ workRamBank v = cond (eqb (v % 2 ^ 3) 0) 1 (v % 2 ^ 3)
 -- FF75: bits 4 to 6 hold what was written, the other bits read 1
 abbrev pub ff75 : ℕ → ℕ
 ff75 v = byte (1 ∷ bitAt 6 v ∷ bitAt 5 v ∷ bitAt 4 v ∷ 1 ∷ 1 ∷ 1 ∷ 1 ∷ [])
+
+-- FF46 DMA: page p, 00 to DF, moves 160 bytes from p × 256 to FE00–FE9F, one byte an M-cycle
+abbrev pub lastPage : ℕ
+lastPage = 0xDF
+
+abbrev pub pageBytes : ℕ
+pageBytes = 160
+
+abbrev pub objectSource : ℕ → ℕ → ℕ
+objectSource p k = p * 2 ^ 8 + k
+
+abbrev pub objectTarget : ℕ → ℕ
+objectTarget k = 0xFE00 + k
 
 -- a block takes 8 M-cycles at single speed
 abbrev pub mcycles : ℕ → ℕ

@@ -5,16 +5,17 @@ use mathlib.Core.List.{List, []}
 use lib.ListN.{length}
 use Rattle.console.specs.declared.Cgb.{Cgb}
 use Rattle.bus.specs.Commit.{bytesOf}
+use Rattle.bus.specs.declared.arbitration.Arbitration.{Arbitration}
 use Rattle.bus.specs.declared.commit.BusInput.{BusInput}
 use Rattle.map_write.specs.declared.WriteInput.{WriteInput}
 use Rattle.engine.specs.Calls.{readRefusal, writeRefusal, readSaid, writeOf, writeWram, writeSaid, lengthsOf, busRefusal, busPairs, busState}
-use Rattle.engine.specs.Calls.{busSaid, busBytes, busVram, busOam, busOf}
+use Rattle.engine.specs.Calls.{busSaid, busBytes, busVram, busOam, busOf, insideBus, cycleRefusal, cycleState, cycleSaid, cycleByte, cycleOam, cycleOf}
 use Rattle.call.specs.declared.Call.{Call}
-use Rattle.call.specs.declared.Call.the-variants.{Write, Read, Bus, Plain}
+use Rattle.call.specs.declared.Call.the-variants.{Write, Read, Bus, BusInside, ObjectDmaCycle, Plain}
 use Rattle.plain.proofs.Declined.{plain-declined}
 use Rattle.told.specs.Declined.{Declined}
 use Rattle.told.proofs.Declined as told
-use Rattle.perform.specs.Perform.{readPerformed, writePerformed, busPerformed, performOf, wramLeft, vramLeft, oamLeft}
+use Rattle.perform.specs.Perform.{readPerformed, writePerformed, busPerformed, cyclePerformed, performOf, wramLeft, vramLeft, oamLeft}
 
 module _ (s : Cgb) (wram vram oam : List ℕ) where
   read-declined : (a : ℕ) → (readPerformed s wram a .told .refusal ≡ 0 → ⊥) → Declined s wram vram oam (readPerformed s wram a) wram vram oam
@@ -26,7 +27,7 @@ module _ (s : Cgb) (wram vram oam : List ℕ) where
       Declined s wram vram oam (writePerformed s w a (length wram)) (writeWram s w a wram) vram oam
   unfolding writePerformed writeSaid writeOf writeWram
   write-declined a w =
-      told.law s wram vram oam (writeRefusal s (length wram) a) [] (writePerformed s w a (length wram)) (writeWram s w a wram) vram oam refl
+      told.law s wram vram oam (writeRefusal s (w .value) (length wram) a) [] (writePerformed s w a (length wram)) (writeWram s w a wram) vram oam refl
       (λ e. record {
         number-alone = rw e;
         no-pair = refl;
@@ -57,6 +58,26 @@ module _ (s : Cgb) (wram vram oam : List ℕ) where
         same-oam = rw e;
       })
 
+  cycle-declined :
+      (a : Arbitration) (cartridge : List ℕ) →
+      (let n = lengthsOf cartridge wram vram oam in
+      (cyclePerformed s a cartridge wram vram oam .told .refusal ≡ 0 → ⊥) →
+      Declined s wram vram oam (cyclePerformed s a cartridge wram vram oam) wram vram (cycleOam s a n cartridge wram vram oam))
+  unfolding cyclePerformed cycleOf cycleSaid cycleByte cycleState cycleOam
+  cycle-declined a cartridge =
+      let n = lengthsOf cartridge wram vram oam in
+      told.law s wram vram oam (cycleRefusal s n) _ (cyclePerformed s a cartridge wram vram oam) wram
+      vram (cycleOam s a n cartridge wram vram oam) refl
+      (λ e. record {
+        number-alone = rw e;
+        no-pair = refl;
+        no-byte = rw e;
+        same-state = rw e;
+        same-wram = refl;
+        same-vram = refl;
+        same-oam = rw e;
+      })
+
   -- any call
   pub declined-call :
       (call : Call) (cartridge : List ℕ) → (performOf s call cartridge wram vram oam .told .refusal ≡ 0 → ⊥) →
@@ -66,4 +87,6 @@ module _ (s : Cgb) (wram vram oam : List ℕ) where
   declined-call (Write a w) cartridge = write-declined a w
   declined-call (Read a) cartridge = read-declined a
   declined-call (Bus i) cartridge = bus-declined i cartridge
+  declined-call (BusInside i) cartridge = bus-declined (insideBus s i) cartridge
+  declined-call (ObjectDmaCycle a) cartridge = cycle-declined a cartridge
   declined-call (Plain p) cartridge = plain-declined s wram vram oam p

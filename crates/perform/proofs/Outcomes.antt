@@ -3,13 +3,16 @@ use Prim.Native.Nat.{ℕ}
 use mathlib.Core.Path.{_≡_, refl, sym, subst}
 use mathlib.Core.List.{List}
 use Rattle.console.specs.declared.Cgb.{Cgb}
+use Rattle.bus.specs.declared.arbitration.Arbitration.{Arbitration}
 use Rattle.bus.specs.declared.commit.BusInput.{BusInput}
+use Rattle.bus.specs.declared.hold.HoldInput.{HoldInput}
+use Rattle.engine.specs.Calls.{insideBus}
 use Rattle.map_write.specs.declared.WriteInput.{WriteInput}
 use Rattle.perform.proofs.Declined.{declined-call}
-use Rattle.perform.specs.Perform.{readPerformed, WritePerformed, BusPerformed, performOf, wramLeft, vramLeft, oamLeft, Performs}
+use Rattle.perform.specs.Perform.{readPerformed, WritePerformed, BusPerformed, CyclePerformed, performOf, wramLeft, vramLeft, oamLeft, Performs}
 use Rattle.plain.specs.Plain.{plainPerformed}
 use Rattle.call.specs.declared.Call.{Call}
-use Rattle.call.specs.declared.Call.the-variants.{Write, Read, Bus, Plain}
+use Rattle.call.specs.declared.Call.the-variants.{Write, Read, Bus, BusInside, ObjectDmaCycle, Plain}
 use Rattle.call.specs.declared.PlainCall.{PlainCall}
 use Rattle.told.specs.declared.Performed.{Performed}
 
@@ -46,6 +49,20 @@ module _ (s : Cgb) (call : Call) (cartridge wram vram oam : List ℕ) (r : Perfo
       Performs s call cartridge wram vram oam r wram v o
   unfolding performOf wramLeft vramLeft oamLeft
   performs-bus i v o is p = as-known (Bus i) wram v o is (whole (Bus i) wram v o (p .result) refl (p .stored) (p .deposit))
+
+  pub performs-bus-inside :
+      (i : HoldInput) (v o : List ℕ) → call ≡ BusInside i → BusPerformed s (insideBus s i) cartridge wram vram oam r v o →
+      Performs s call cartridge wram vram oam r wram v o
+  unfolding performOf wramLeft vramLeft oamLeft
+  performs-bus-inside i v o is p =
+      as-known (BusInside i) wram v o is (whole (BusInside i) wram v o (p .result) refl (p .stored) (p .deposit))
+
+  pub performs-cycle :
+      (a : Arbitration) (o : List ℕ) → call ≡ ObjectDmaCycle a → CyclePerformed s a cartridge wram vram oam r o →
+      Performs s call cartridge wram vram oam r wram vram o
+  unfolding performOf wramLeft vramLeft oamLeft
+  performs-cycle a o is p =
+      as-known (ObjectDmaCycle a) wram vram o is (whole (ObjectDmaCycle a) wram vram o (p .result) refl refl (p .stored))
 
   pub performs-plain : (p : PlainCall) → call ≡ Plain p → r ≡ plainPerformed s p → Performs s call cartridge wram vram oam r wram vram oam
   unfolding performOf wramLeft vramLeft oamLeft

@@ -25,6 +25,15 @@ pub fn perform(
         Call::Write { address, input } => lent::write(state, wram, address, input),
         Call::Read(address) => lent::read(state, wram, address),
         Call::Bus(input) => lent::bus(state, input, cartridge, wram, vram, oam),
+        Call::BusInside(input) => lent::bus_inside(state, input, cartridge, wram, vram, oam),
+        Call::ObjectDmaCycle(arbitration) => lent::cycle(
+            state,
+            arbitration,
+            cartridge,
+            wram,
+            vram,
+            oam,
+        ),
         Call::Plain(plain) => plain::plain(state, plain),
     }
 }

@@ -17,7 +17,7 @@ use Rattle.answers.specs.declared.PairAnswer.the-variants as pair
 use Rattle.answers.specs.declared.SwitchAnswer.the-variants as switch
 use Rattle.engine.proofs.Says.{arbitration-said, conflict-said, pair-said, switch-said}
 use Rattle.engine.specs.Calls.{fallRefusal, fallCallOf, nextPairOf, arbitrated, arbitrationCallOf, switchRefusal, switchCallOf, blackoutCallOf}
-use Rattle.engine.specs.Calls.{wakeCallOf, escapeDrainOf, lcdCallOf, retiredCallOf, conflictCallOf}
+use Rattle.engine.specs.Calls.{wakeCallOf, escapeDrainOf, lcdCallOf, retiredCallOf, conflictCallOf, insideArbitration}
 use Rattle.ask.specs.Ask.{askedOf}
 use Rattle.ask.proofs.Asked.{asked-said}
 use Rattle.call.specs.declared.PlainCall.{PlainCall}
@@ -42,6 +42,9 @@ module _ (s : Cgb) (wram vram oam : List ℕ) where
   plain-declined (plain.Wake boundary) = told.changing s wram vram oam flagSays flag.Refused (stateRefusal s) _ _ _ refl (λ n. refl)
   plain-declined (plain.Arbitrate i) =
       told.changing s wram vram oam arbitrationSays arbitration.Refused (stateRefusal s) _ _ _ (arbitration-said (arbitrated s i .answer)) (λ n. refl)
+  plain-declined (plain.ArbitrateInside i) =
+      told.changing s wram vram oam arbitrationSays arbitration.Refused (stateRefusal s) _ _ _
+      (arbitration-said (arbitrated s (insideArbitration s i) .answer)) (λ n. refl)
   plain-declined (plain.Conflict a) =
       told.asking s wram vram oam conflictSays conflict.Refused _ _ (conflict-said (conflictOf (s .«double_speed») a (s .«vram_dma»))) (λ n. refl)
   plain-declined (plain.Query q) =

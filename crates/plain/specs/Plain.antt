@@ -2,7 +2,7 @@
 use Rattle.console.specs.declared.Cgb.{Cgb}
 use Rattle.answers.specs.Answers.{doneStateSays, flaggedSays, handedSays, fellSays, switchedSays, arbitratedSays, conflictSays}
 use Rattle.engine.specs.Calls.{fallCallOf, nextPairOf, arbitrationCallOf, switchCallOf, blackoutCallOf, wakeCallOf, escapeDrainOf, lcdCallOf}
-use Rattle.engine.specs.Calls.{retiredCallOf, conflictCallOf}
+use Rattle.engine.specs.Calls.{retiredCallOf, conflictCallOf, insideArbitration}
 use Rattle.ask.specs.Ask.{askedOf}
 use Rattle.call.specs.declared.PlainCall.{PlainCall}
 use Rattle.call.specs.declared.PlainCall.the-variants as plain
@@ -19,5 +19,7 @@ plainPerformed s plain.InstructionRetired = telling (doneStateSays (retiredCallO
 plainPerformed s (plain.Blackout elapsed) = telling (flaggedSays (blackoutCallOf s elapsed)) (blackoutCallOf s elapsed .state)
 plainPerformed s (plain.Wake boundary) = telling (flaggedSays (wakeCallOf s boundary)) (wakeCallOf s boundary .state)
 plainPerformed s (plain.Arbitrate i) = telling (arbitratedSays (arbitrationCallOf s i)) (arbitrationCallOf s i .state)
+plainPerformed s (plain.ArbitrateInside i) =
+    let r = arbitrationCallOf s (insideArbitration s i) in telling (arbitratedSays r) (r .state)
 plainPerformed s (plain.Conflict a) = telling (conflictSays (conflictCallOf s a)) s
 plainPerformed s (plain.Query q) = telling (askedOf s q) s

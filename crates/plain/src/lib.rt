@@ -2,6 +2,7 @@
 ghost use mathlib.Core.Path.{_≡_};
 ghost use Rattle.plain.specs.Plain.{plainPerformed};
 use bus::arbitration::ArbitrationInput;
+use bus::hold::HoldInput;
 use call::PlainCall;
 use call::query::Query;
 use console::Cgb;
@@ -90,6 +91,15 @@ fn arbitrated(state: Cgb, input: ArbitrationInput) -> Performed
     told::quiet(told::of_arbitration(answer), after)
 }
 
+fn arbitrated_inside(state: Cgb, input: HoldInput) -> Performed
+    ensures { λ r. ⌜ r ≡ plainPerformed state (PlainCall.ArbitrateInside input) ⌝ }
+{
+    let done = engine::vram_dma_arbitrate_inside(state, input);
+    let answer = done.answer;
+    let after = done.state;
+    told::quiet(told::of_arbitration(answer), after)
+}
+
 fn conflict(state: Cgb, address: u16) -> Performed
     ensures { λ r. ⌜ r ≡ plainPerformed state (PlainCall.Conflict address) ⌝ }
 {
@@ -116,6 +126,7 @@ pub fn plain(state: Cgb, call: PlainCall) -> Performed
         PlainCall::Blackout(elapsed) => blackout(state, elapsed),
         PlainCall::Wake(boundary) => wake(state, boundary),
         PlainCall::Arbitrate(input) => arbitrated(state, input),
+        PlainCall::ArbitrateInside(input) => arbitrated_inside(state, input),
         PlainCall::Conflict(address) => conflict(state, address),
         PlainCall::Query(question) => asked(state, question),
     }

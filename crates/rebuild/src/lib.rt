@@ -39,6 +39,7 @@ use console::CgbConsoleState;
 use console::CgbVram;
 use console::VramDmaClaim;
 use console::WakeLatency;
+use console::object::ObjectDma;
 use console::vram_dma::HaltArbiter;
 use console::vram_dma::HblankBlock;
 use console::vram_dma::OamContention;
@@ -815,6 +816,12 @@ pub fn cgb(s: Cgb) -> Cgb
                 standing: s.console_state.vram_dma_claim.standing,
             },
         },
+        object_dma: ObjectDma {
+            running: s.object_dma.running,
+            page: s.object_dma.page,
+            counted: s.object_dma.counted,
+            start_edge: s.object_dma.start_edge,
+        },
     }
 }
 
@@ -888,6 +895,12 @@ pub fn with_vram_dma(s: Cgb, x: VramDma) -> Cgb
                 committed: s.console_state.vram_dma_claim.committed,
                 standing: s.console_state.vram_dma_claim.standing,
             },
+        },
+        object_dma: ObjectDma {
+            running: s.object_dma.running,
+            page: s.object_dma.page,
+            counted: s.object_dma.counted,
+            start_edge: s.object_dma.start_edge,
         },
     }
 }
@@ -964,6 +977,12 @@ pub fn with_speed_switch_blackout(s: Cgb, x: u32) -> Cgb
                 standing: s.console_state.vram_dma_claim.standing,
             },
         },
+        object_dma: ObjectDma {
+            running: s.object_dma.running,
+            page: s.object_dma.page,
+            counted: s.object_dma.counted,
+            start_edge: s.object_dma.start_edge,
+        },
     }
 }
 
@@ -1037,6 +1056,12 @@ pub fn with_speed_switch_wake_latency(s: Cgb, x: WakeLatency) -> Cgb
                 committed: s.console_state.vram_dma_claim.committed,
                 standing: s.console_state.vram_dma_claim.standing,
             },
+        },
+        object_dma: ObjectDma {
+            running: s.object_dma.running,
+            page: s.object_dma.page,
+            counted: s.object_dma.counted,
+            start_edge: s.object_dma.start_edge,
         },
     }
 }

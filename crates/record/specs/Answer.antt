@@ -1,5 +1,6 @@
 -- An answer's record of 24 bytes, numbers lowest byte first: 0 refusal, 1 zero, 2–9 the four values, 10–13 the first pair's source
--- and destination, 14–17 the second's, 18 and 19 their bytes, 20–23 zero.
+-- and destination, 14–17 the second's, 18 and 19 their bytes, 20–23 zero; an M-cycle call's
+-- byte is byte 18.
 use Prim.Native.Nat.{ℕ, _/_, _%_}
 use mathlib.Core.List.{List, [], _∷_, _++_}
 use lib.ListN.{getD, replicate}

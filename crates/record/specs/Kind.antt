@@ -5,7 +5,7 @@ use Rattle.arithmetic.specs.Number.{byteAt}
 use Rattle.table.specs.Table.{Entry, _⟼_, look}
 use Rattle.call.specs.declared.PlainCall.the-variants as plain
 use Rattle.call.specs.declared.query.Query.the-variants as query
-use Rattle.record.specs.Input.{fallInputOf, switchInputOf, elapsedOf, arbitrationInputOf, addressOf, boundaryOf}
+use Rattle.record.specs.Input.{fallInputOf, switchInputOf, elapsedOf, arbitrationInputOf, addressOf, boundaryOf, holdInputOf}
 use Rattle.record.specs.declared.kind.CodedPlain.{CodedPlain}
 use Rattle.record.specs.declared.kind.CodedPlain.the-variants.{Plain, Unknown}
 use Rattle.record.specs.declared.kind.CodedQuery.{CodedQuery}
@@ -25,7 +25,8 @@ queryKinds =
     (23 ⟼ coded.Query query.DoubleSpeed) ∷
     (24 ⟼ coded.Query query.CpuStepsPerDot) ∷
     (25 ⟼ coded.Query query.WramBank) ∷
-    (26 ⟼ coded.Query query.SvbkRegister) ∷ []
+    (26 ⟼ coded.Query query.SvbkRegister) ∷
+    (30 ⟼ coded.Query query.ObjectDma) ∷ []
 
 unfoldable pub queryKind : ℕ → CodedQuery
 queryKind kind = look queryKinds coded.Unknown kind
@@ -45,7 +46,8 @@ plainKinds bytes =
     (10 ⟼ Plain (plain.Arbitrate (arbitrationInputOf bytes))) ∷
     (11 ⟼ Plain (plain.Conflict (addressOf bytes))) ∷
     (12 ⟼ Plain (plain.Wake (boundaryOf bytes))) ∷
-    (13 ⟼ Plain plain.InstructionRetired) ∷ []
+    (13 ⟼ Plain plain.InstructionRetired) ∷
+    (28 ⟼ Plain (plain.ArbitrateInside (holdInputOf bytes))) ∷ []
 
 unfoldable pub plainOf : List ℕ → CodedPlain
 plainOf bytes = look (plainKinds bytes) (queryOf (queryKind (byteAt bytes 0))) (byteAt bytes 0)

@@ -1,4 +1,4 @@
-// An answer's record: the refusal, the values, the pairs and the bytes of a bus call, lowest byte first.
+// An answer's record: the refusal, the values, the pairs and the bytes of a bus call or the byte of an M-cycle call, lowest byte first.
 ghost use mathlib.Core.Path.{_≡_};
 ghost use Prim.Native.Nat.{_/_, _%_};
 ghost use Rattle.record.specs.Answer.{answerBytes, refusedBytes};

@@ -1,11 +1,12 @@
 // The inputs of a call in its record of 16 bytes, numbers lowest byte first. Other bytes and bits are ignored.
 ghost use mathlib.Core.Path.{_≡_};
-ghost use Rattle.record.specs.Input.{edgeOf, addressOf, elapsedOf, boundaryOf, writeInputOf, fallInputOf, switchInputOf, busInputOf, arbitrationInputOf};
+ghost use Rattle.record.specs.Input.{edgeOf, addressOf, elapsedOf, boundaryOf, writeInputOf, fallInputOf, switchInputOf, busInputOf, arbitrationInputOf, holdInputOf};
 use arithmetic::number::of_eight;
 use arithmetic::number::of_four;
 use arithmetic::number::of_two;
 use bus::arbitration::ArbitrationInput;
 use bus::commit::BusInput;
+use bus::hold::HoldInput;
 use fall_edge::FallInput;
 use map_write::WriteInput;
 use speed_switch::switch::SwitchInput;
@@ -40,9 +41,11 @@ pub fn elapsed(bytes: [u8; 16]) -> u32
 pub fn write_input(bytes: [u8; 16]) -> WriteInput
     ensures { λ r. ⌜ r ≡ writeInputOf bytes ⌝ }
 {
+    let at = edge(bytes);
     WriteInput {
         value: bytes[4],
         lcd_on: bytes[5] != 0,
+        oam_start_edge: at,
     }
 }
 
@@ -94,6 +97,16 @@ pub fn arbitration_input(bytes: [u8; 16]) -> ArbitrationInput
         hold: flags % 2 == 1,
         suspended: flags / 2 % 2 == 1,
         oam_transferring: flags / 4 % 2 == 1,
+    }
+}
+
+pub fn hold_input(bytes: [u8; 16]) -> HoldInput
+    ensures { λ r. ⌜ r ≡ holdInputOf bytes ⌝ }
+{
+    let flags = bytes[5];
+    HoldInput {
+        hold: flags % 2 == 1,
+        suspended: flags / 2 % 2 == 1,
     }
 }
 

@@ -32,6 +32,7 @@ fn query(kind: u8) -> CodedQuery
         24 => CodedQuery::Query(Query::CpuStepsPerDot),
         25 => CodedQuery::Query(Query::WramBank),
         26 => CodedQuery::Query(Query::SvbkRegister),
+        30 => CodedQuery::Query(Query::ObjectDma),
         _ => CodedQuery::Unknown,
     }
 }
@@ -79,6 +80,10 @@ pub fn plain(bytes: [u8; 16]) -> CodedPlain
             CodedPlain::Plain(PlainCall::Wake(input))
         }
         13 => CodedPlain::Plain(PlainCall::InstructionRetired),
+        28 => {
+            let input = input::hold_input(bytes);
+            CodedPlain::Plain(PlainCall::ArbitrateInside(input))
+        }
         _ => asked(kind),
     }
 }

@@ -5,7 +5,8 @@ pub mod input;
 pub mod kind;
 
 ghost use mathlib.Core.Path.{_≡_};
-ghost use Rattle.record.specs.Record.{callIn, callOf};
+ghost use Rattle.record.specs.Record.{callIn, cycleIn, callOf};
+use bus::arbitration::Arbitration;
 use call::Call;
 use kind::CodedPlain;
 
@@ -21,6 +22,18 @@ fn wrapped(coded: CodedPlain) -> Coded
         return Coded::Unknown;
     };
     Coded::Call(Call::Plain(p))
+}
+
+// Arbitration's answer by its number; above 2 it is none.
+fn cycle(answer: u8) -> Coded
+    ensures { λ r. ⌜ r ≡ cycleIn answer ⌝ }
+{
+    match answer {
+        0 => Coded::Call(Call::ObjectDmaCycle(Arbitration::Clear)),
+        1 => Coded::Call(Call::ObjectDmaCycle(Arbitration::Contended)),
+        2 => Coded::Call(Call::ObjectDmaCycle(Arbitration::Stall)),
+        _ => Coded::Unknown,
+    }
 }
 
 pub fn decode(bytes: [u8; 16]) -> Coded
@@ -40,6 +53,11 @@ pub fn decode(bytes: [u8; 16]) -> Coded
         9 => {
             let input = input::bus_input(bytes);
             Coded::Call(Call::Bus(input))
+        }
+        27 => cycle(bytes[4]),
+        29 => {
+            let input = input::hold_input(bytes);
+            Coded::Call(Call::BusInside(input))
         }
         _ => {
             let coded = kind::plain(bytes);

@@ -41,6 +41,13 @@ pub fn write(state: Cgb, wram: &mut [u8], address: u16, input: WriteInput) -> Do
             state: state,
         };
     }
+    // FF46 is in the map: 4 cannot come there.
+    if (address == 0xFF46) & (input.value > 0xDF) {
+        return Done {
+            answer: DoneAnswer::Refused(refusal::PAGE),
+            state: state,
+        };
+    }
     let written = map_write::map_write_byte(state, wram, address, input);
     if written.mapped {
         let next = written.state;

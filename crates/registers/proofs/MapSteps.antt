@@ -4,14 +4,15 @@ use native.Mathlib.Omega.{arith}
 use mathlib.Core.Path.{_≡_, refl, sym, ap, subst, _∙_}
 use mathlib.Core.Bool.{Bool, true, false, false≢true}
 use mathlib.Core.Logic.{_↔_, _⊎_, inl, inr, ⊎-elim}
-use borrow.Author.Tests.{eq-eqb, ne-eqb}
+use lib.Dec.{eqb}
+use borrow.Author.Tests.{eq-eqb, ne-eqb, eqb-true}
 use Rattle.memory.specs.Wram.{bankedIndex}
 use Rattle.table.specs.Table.{_▸_}
 use Rattle.table.proofs.Table.{each}
-use Rattle.registers.specs.Map.{Place, workRam, bankedRam, extraOam, register, unmapped, registers, registerOf, placeOf, readable, writable}
+use Rattle.registers.specs.Map.{Place, workRam, bankedRam, extraOam, register, dmaStart, unmapped, registers, registerOf, placeOf, readable, writable}
 use Rattle.registers.specs.Map.{locks, locksAt}
 use Rattle.registers.specs.Ram.{wramIndexOf}
-use Rattle.registers.specs.MapSteps.{Mapped, LocksWrite, MapSteps, RamSteps}
+use Rattle.registers.specs.MapSteps.{Mapped, MappedWrite, LocksWrite, MapSteps, RamSteps}
 use Rattle.registers.specs.declared.WramIndex.the-variants.{At, Elsewhere}
 use Rattle.registers.proofs.Places.{at-place, at-c, at-d, at-e, at-f, at-oam}
 use Rattle.registers.proofs.Ram as ram
@@ -31,7 +32,8 @@ module _ (a : ℕ) where
   named : Told (registerOf a)
   named =
       each Told a registers unmapped
-      ((λ e h. inr (inr (inl e))) ▸
+      ((λ e h. absurd (false≢true h)) ▸
+      (λ e h. inr (inr (inl e))) ▸
       (λ e h. inr (inr (inr (inl e)))) ▸
       (λ e h. inr (inr (inr (inr (inl e))))) ▸
       (λ e h. pointer (omega arith) (omega arith)) ▸
@@ -106,15 +108,110 @@ back a (inr (inr (inr (inr (inr (inr (inr h))))))) = range InMap 0xFF72 3 a scra
 pub read-map : (a : ℕ) → (readable (placeOf a) ≡ true) ↔ Mapped a
 read-map a = (there a, back a)
 
-one-map : (p : Place) → writable p ≡ readable p
-one-map (workRam i) = refl
-one-map (bankedRam i) = refl
-one-map (extraOam i) = refl
-one-map (register r) = refl
-one-map unmapped = refl
+-- what can be read can be written, and so can FF46
+kept : (p : Place) → readable p ≡ true → writable p ≡ true
+kept (workRam i) h = refl
+kept (bankedRam i) h = refl
+kept (extraOam i) h = refl
+kept (register r) h = refl
+kept dmaStart h = refl
+kept unmapped h = absurd (false≢true h)
 
-pub write-map : (a : ℕ) → (writable (placeOf a) ≡ true) ↔ Mapped a
-write-map a = rw (one-map (placeOf a)) (read-map a)
+module _ (a : ℕ) where
+  abbrev Writes : Place → Type 0
+  Writes q = writable q ≡ true → MappedWrite a
+
+  named-write : Writes (registerOf a)
+  named-write =
+      each (λ q. Told a q → Writes q) a registers unmapped
+      ((λ e told h. inl e) ▸
+      (λ e told h. inr (told refl)) ▸
+      (λ e told h. inr (told refl)) ▸
+      (λ e told h. inr (told refl)) ▸
+      (λ e told h. inr (told refl)) ▸
+      (λ e told h. inr (told refl)) ▸
+      (λ e told h. inr (told refl)) ▸
+      (λ e told h. inr (told refl)) ▸
+      (λ e told h. inr (told refl)) ▸
+      (λ e told h. inr (told refl)) ▸
+      (λ e told h. inr (told refl)) ▸
+      (λ e told h. inr (told refl)) ▸
+      (λ e told h. inr (told refl)) ▸
+      (λ e told h. inr (told refl)) ▸
+      tt)
+      (λ told h. absurd (false≢true h))
+      (named a)
+
+  there-write : Writes (placeOf a)
+  there-write =
+      at-place Writes a
+      (λ p q h. inr (inl (p, omega arith)))
+      (λ p q h. inr (inl (omega arith, omega arith)))
+      (λ p q h. inr (inl (omega arith, omega arith)))
+      (λ p q h. inr (inl (omega arith, q)))
+      (λ p q h. inr (inr (inl (p, q))))
+      named-write
+
+back-write : (a : ℕ) → MappedWrite a → writable (placeOf a) ≡ true
+unfolding placeOf
+back-write a (inl e) = subst (λ x. writable (placeOf x) ≡ true) (sym e) refl
+back-write a (inr m) = kept (placeOf a) (back a m)
+
+pub write-map : (a : ℕ) → (writable (placeOf a) ≡ true) ↔ MappedWrite a
+write-map a = (there-write a, back-write a)
+
+-- whether a place is object DMA's start
+abbrev pub startsDma : Place → Bool
+startsDma (workRam i) = false
+startsDma (bankedRam i) = false
+startsDma (extraOam i) = false
+startsDma (register r) = false
+startsDma dmaStart = true
+startsDma unmapped = false
+
+not-start : (q : Place) → q ≡ dmaStart → startsDma q ≡ false → ⊥
+not-start q h e = false≢true (sym e ∙ ap startsDma h)
+
+-- FF46 alone names object DMA's start
+pub dma-start-at : (a : ℕ) → placeOf a ≡ dmaStart → a ≡ 0xFF46
+dma-start-at a =
+    at-place (λ q. q ≡ dmaStart → a ≡ 0xFF46) a
+    (λ p q h. absurd (not-start _ h refl)) (λ p q h. absurd (not-start _ h refl)) (λ p q h. absurd (not-start _ h refl))
+    (λ p q h. absurd (not-start _ h refl)) (λ p q h. absurd (not-start _ h refl))
+    (each (λ q. q ≡ dmaStart → a ≡ 0xFF46) a registers unmapped
+    ((λ e h. e) ▸
+    (λ e h. absurd (not-start _ h refl)) ▸
+    (λ e h. absurd (not-start _ h refl)) ▸
+    (λ e h. absurd (not-start _ h refl)) ▸
+    (λ e h. absurd (not-start _ h refl)) ▸
+    (λ e h. absurd (not-start _ h refl)) ▸
+    (λ e h. absurd (not-start _ h refl)) ▸
+    (λ e h. absurd (not-start _ h refl)) ▸
+    (λ e h. absurd (not-start _ h refl)) ▸
+    (λ e h. absurd (not-start _ h refl)) ▸
+    (λ e h. absurd (not-start _ h refl)) ▸
+    (λ e h. absurd (not-start _ h refl)) ▸
+    (λ e h. absurd (not-start _ h refl)) ▸
+    (λ e h. absurd (not-start _ h refl)) ▸
+    tt)
+    (λ h. absurd (not-start _ h refl)))
+
+is-start : (p : Place) → startsDma p ≡ true → p ≡ dmaStart
+is-start (workRam i) h = absurd (false≢true h)
+is-start (bankedRam i) h = absurd (false≢true h)
+is-start (extraOam i) h = absurd (false≢true h)
+is-start (register r) h = absurd (false≢true h)
+is-start dmaStart h = refl
+is-start unmapped h = absurd (false≢true h)
+
+pub starts-at : (a : ℕ) → startsDma (placeOf a) ≡ eqb a 0xFF46
+unfolding placeOf
+starts-at a = by (startsDma (placeOf a)) (eqb a 0xFF46) refl refl
+  where
+    by : (b c : Bool) → startsDma (placeOf a) ≡ b → eqb a 0xFF46 ≡ c → b ≡ c
+    by true c p q = sym (eq-eqb a 0xFF46 (dma-start-at a (is-start (placeOf a) p))) ∙ q
+    by false true p q = sym p ∙ ap (λ (x : ℕ). startsDma (placeOf x)) (eqb-true a 0xFF46 q)
+    by false false p q = refl
 
 off : {M : Type 0} (b : Bool) → (b ≡ true → M) → (M → ⊥) → b ≡ false
 off true told out = absurd (out (told refl))
@@ -123,7 +220,7 @@ off false told out = refl
 pub not-read : (a : ℕ) → (Mapped a → ⊥) → readable (placeOf a) ≡ false
 not-read a out = off (readable (placeOf a)) (there a) out
 
-pub not-written : (a : ℕ) → (Mapped a → ⊥) → writable (placeOf a) ≡ false
+pub not-written : (a : ℕ) → (MappedWrite a → ⊥) → writable (placeOf a) ≡ false
 not-written a out = off (writable (placeOf a)) (write-map a .0) out
 
 module _ (a : ℕ) where
@@ -134,6 +231,7 @@ module _ (a : ℕ) where
   by-lock =
       each Names a registers unmapped
       ((λ e h. absurd (false≢true h)) ▸
+      (λ e h. absurd (false≢true h)) ▸
       (λ e h. inl e) ▸
       (λ e h. absurd (false≢true h)) ▸
       (λ e h. inr (inl (omega arith, omega arith))) ▸
@@ -191,7 +289,6 @@ map-steps a =
     record {
       read-map = read-map a;
       write-map = write-map a;
-      one-map = one-map (placeOf a);
       locks = lock-map a;
       echo = echoed a;
       extra-inside = λ p q. omega arith;

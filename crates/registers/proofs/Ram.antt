@@ -4,7 +4,7 @@ use native.Mathlib.Omega.{arith}
 use mathlib.Core.Path.{_≡_, refl, sym}
 use mathlib.Core.Bool.{true, false, not, false≢true}
 use Rattle.memory.specs.Wram.{bankedIndex}
-use Rattle.registers.specs.Map.{Place, workRam, bankedRam, extraOam, register, unmapped, registers, registerOf, placeOf}
+use Rattle.registers.specs.Map.{Place, workRam, bankedRam, extraOam, register, dmaStart, unmapped, registers, registerOf, placeOf}
 use Rattle.registers.specs.Ram.{inRam, indexAt, wramIndexOf}
 use Rattle.registers.specs.declared.WramIndex.the-variants.{At, Elsewhere}
 use Rattle.table.proofs.Table.{passes}
@@ -23,6 +23,7 @@ module _ (svbk : ℕ) where
   apart (bankedRam i) e = absurd (false≢true e)
   apart (extraOam i) e = refl
   apart (register r) e = refl
+  apart dmaStart e = refl
   apart unmapped e = refl
 
   pub below : (a : ℕ) → a < 0xC000 → wramIndexOf svbk a ≡ Elsewhere
@@ -49,6 +50,7 @@ beyond svbk (workRam i) e = absurd (not-here i (sym e))
 beyond svbk (bankedRam i) e = absurd (not-here (bankedIndex svbk i) (sym e))
 beyond svbk (extraOam i) e = refl
 beyond svbk (register r) e = refl
+beyond svbk dmaStart e = refl
 beyond svbk unmapped e = refl
 
 pub not-in-ram : (svbk a : ℕ) → wramIndexOf svbk a ≡ Elsewhere → inRam (placeOf a) ≡ false

@@ -9,11 +9,11 @@ use Rattle.table.specs.Table.{Entry, _⟼_, look}
 pub data Register : Type 0 where
   KEY0 KEY1 VBK HDMA1 HDMA2 HDMA3 HDMA4 HDMA5 SVBK FF72 FF73 FF74 FF75 : Register
 
--- a place of the map; memory carries an offset
+-- a place of the map; memory carries an offset. `dmaStart` is FF46 (DMA), object DMA's start (document 02, A1), which is only written
 pub data Place : Type 0 where
   workRam bankedRam extraOam : ℕ → Place
   register : Register → Place
-  unmapped : Place
+  dmaStart unmapped : Place
 
 -- "FEA0–FEFF is 24 bytes, index ((address / 32) mod 8 − 5) × 8 + address mod 8"
 abbrev pub extraOamIndex : ℕ → ℕ
@@ -25,7 +25,8 @@ within low high a = leb low a && leb a high
 -- the registers by their addresses
 abbrev pub registers : List (Entry Place)
 registers =
-    (0xFF4C ⟼ register KEY0)
+    (0xFF46 ⟼ dmaStart)
+    ∷ (0xFF4C ⟼ register KEY0)
     ∷ (0xFF4D ⟼ register KEY1)
     ∷ (0xFF4F ⟼ register VBK)
     ∷ (0xFF51 ⟼ register HDMA1)
@@ -54,12 +55,13 @@ placeOf a =
     (registerOf a)))))
 
 -- what refusal 4 asks: "address not in the call's map". A read and a write have each a map of their own; FF68 to FF6C are in
--- neither
+-- neither. "A write to FF46 no longer gets 4, a read still does" (document 02, A1)
 abbrev pub readable : Place → Bool
 readable (workRam i) = true
 readable (bankedRam i) = true
 readable (extraOam i) = true
 readable (register r) = true
+readable dmaStart = false
 readable unmapped = false
 
 abbrev pub writable : Place → Bool
@@ -67,6 +69,7 @@ writable (workRam i) = true
 writable (bankedRam i) = true
 writable (extraOam i) = true
 writable (register r) = true
+writable dmaStart = true
 writable unmapped = false
 
 -- "Under compat, writes to FF4D, FF51–FF55, FF70 and FF74 are accepted and do nothing"
@@ -90,6 +93,7 @@ locks (workRam i) = false
 locks (bankedRam i) = false
 locks (extraOam i) = false
 locks (register r) = locksRegister r
+locks dmaStart = false
 locks unmapped = false
 
 unfoldable pub locksAt : ℕ → Bool

@@ -9,12 +9,16 @@ use Rattle.registers.specs.Map.{placeOf, readable, writable, locksAt}
 use Rattle.registers.specs.Ram.{wramIndexOf}
 use Rattle.registers.specs.declared.WramIndex.the-variants.{At, Elsewhere}
 
--- "WRAM reads and writes, and registers FEA0–FEFF, FF4C, FF4D, FF4F, FF51–FF55, FF70, FF72–FF75"; "WRAM answers at C000h–FDFFh"
+-- the read's map: "WRAM reads and writes, and registers FEA0–FEFF, FF4C, FF4D, FF4F, FF51–FF55, FF70, FF72–FF75"; "WRAM answers at C000h–FDFFh"
 abbrev pub Mapped : ℕ → Type 0
 Mapped a =
     ((0xC000 ≤ a) × (a ≤ 0xFDFF)) ⊎
     ((0xFEA0 ≤ a) × (a ≤ 0xFEFF)) ⊎
     (a ≡ 0xFF4C) ⊎ (a ≡ 0xFF4D) ⊎ (a ≡ 0xFF4F) ⊎ ((0xFF51 ≤ a) × (a ≤ 0xFF55)) ⊎ (a ≡ 0xFF70) ⊎ ((0xFF72 ≤ a) × (a ≤ 0xFF75))
+
+-- of a write besides, "A write to FF46 no longer gets 4, a read still does" (document 02, A1)
+abbrev pub MappedWrite : ℕ → Type 0
+MappedWrite a = (a ≡ 0xFF46) ⊎ Mapped a
 
 -- "Under compat, writes to FF4D, FF51–FF55, FF70 and FF74 .. do nothing"
 abbrev pub LocksWrite : ℕ → Type 0
@@ -23,9 +27,7 @@ LocksWrite a = (a ≡ 0xFF4D) ⊎ ((0xFF51 ≤ a) × (a ≤ 0xFF55)) ⊎ (a ≡ 
 pub record MapSteps (a : ℕ) : Type 0 where
   -- 4: "address not in the call's map", of a read and of a write
   pub read-map : (readable (placeOf a) ≡ true) ↔ Mapped a
-  pub write-map : (writable (placeOf a) ≡ true) ↔ Mapped a
-  -- the two maps are one
-  pub one-map : writable (placeOf a) ≡ readable (placeOf a)
+  pub write-map : (writable (placeOf a) ≡ true) ↔ MappedWrite a
   pub locks : (locksAt a ≡ true) ↔ LocksWrite a
   -- "E000h up repeating C000h up", to FDFFh: the place of the address 2000h lower
   pub echo : 0xE000 ≤ a → a ≤ 0xFDFF → placeOf a ≡ placeOf (a - 0x2000)

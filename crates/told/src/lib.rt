@@ -1,15 +1,17 @@
 // What a call gives, as numbers: the refusal or 0, then up to four values in the order of the definitions
-// (answers/specs/Answers); with the pairs and bytes of a bus call, and the state.
+// (answers/specs/Answers); with the pairs and bytes of a bus call, the byte of an M-cycle call, and the state.
 ghost use mathlib.Core.Path.{_≡_};
-ghost use Rattle.answers.specs.Answers.{bitOf, doneSays, byteSays, flagSays, claimSays, tallySays, pairSays, switchSays, arbitrationSays, conflictSays, busSays, statusSays, modeSays, accepted};
+ghost use Rattle.answers.specs.Answers.{bitOf, doneSays, byteSays, flagSays, claimSays, tallySays, pairSays, switchSays, arbitrationSays, conflictSays, busSays, cycleSays, objectDmaSays, statusSays, modeSays, accepted};
 ghost use Rattle.told.specs.Told.{toldOf, toldRefused, toldValues, quietly};
 use answers::ArbitrationAnswer;
 use answers::BusAnswer;
 use answers::ByteAnswer;
 use answers::ClaimAnswer;
 use answers::ConflictAnswer;
+use answers::CycleAnswer;
 use answers::DoneAnswer;
 use answers::FlagAnswer;
+use answers::ObjectDmaAnswer;
 use answers::PairAnswer;
 use answers::StatusAnswer;
 use answers::SwitchAnswer;
@@ -26,7 +28,7 @@ pub struct Told {
     pub v3: u16,
 }
 
-// What a call said and left. The arrays are a bus call's: of another call they are 0.
+// What a call said and left. The arrays are a bus call's, and an M-cycle call's byte is the first: of another call they are 0.
 pub struct Performed {
     pub told: Told,
     pub pairs: [BytePair; 2],
@@ -185,6 +187,30 @@ pub fn of_bus(a: BusAnswer) -> Told
     match a {
         BusAnswer::Moved { count, setup_cell } => values(widened(count), bit(setup_cell), 0, 0),
         BusAnswer::Refused(n) => refused(n),
+    }
+}
+
+pub fn of_cycle(a: CycleAnswer) -> Told
+    ensures { λ r. ⌜ r ≡ toldOf (cycleSays a) ⌝ }
+{
+    match a {
+        CycleAnswer::Nothing => values(0, 0, 0, 0),
+        CycleAnswer::Moved(source) => values(1, source, 0, 0),
+        CycleAnswer::PassedOver(source) => values(2, source, 0, 0),
+        CycleAnswer::Refused(n) => refused(n),
+    }
+}
+
+pub fn of_object_dma(a: ObjectDmaAnswer) -> Told
+    ensures { λ r. ⌜ r ≡ toldOf (objectDmaSays a) ⌝ }
+{
+    match a {
+        ObjectDmaAnswer::ObjectDma {
+            runs,
+            counted,
+            page,
+        } => values(bit(runs), widened(counted), widened(page), 0),
+        ObjectDmaAnswer::Refused(n) => refused(n),
     }
 }
 

@@ -38,9 +38,9 @@ fn fill(memory: &mut [u8], which: u8, seed: u8) {
     }
 }
 
-// Whether a call of this kind is lent memory: a write, a read, a bus call. For others it is neither filled nor looked at.
+// Whether a call of this kind is lent memory: a write, a read, a bus call, object DMA's M-cycle. For others it is neither filled nor looked at.
 fn is_lent(kind: u8) -> bool {
-    (kind == 1) | (kind == 8) | (kind == 9)
+    (kind == 1) | (kind == 8) | (kind == 9) | (kind == 27) | (kind == 29)
 }
 
 pub fn fill_all(

@@ -2,7 +2,7 @@
 -- every list of calls (specs, `Widths`). Assumes nothing.
 use Prim.Native.Nat.{ℕ, _<_, _^_, _/_, _%_, _*_, _-_}
 use native.Mathlib.Omega.{arith}
-use mathlib.Core.Path.{sym, subst}
+use mathlib.Core.Path.{_≡_, sym, subst}
 use mathlib.Core.Bool.{Bool, true, false, cond, not}
 use mathlib.Core.List.{List}
 use lib.Dec.{eqb, lit<}
@@ -17,13 +17,14 @@ use Rattle.console.specs.declared.WakeLatency.the-variants as latency
 use Rattle.console.specs.declared.vram_dma.VramDma.{VramDma}
 use Rattle.console.proofs.Reached as seven
 use Rattle.registers.specs.Map.{KEY0, KEY1, VBK, HDMA1, HDMA2, HDMA3, HDMA4, HDMA5, SVBK, FF72, FF73, FF74, FF75}
-use Rattle.registers.specs.Map.{Place, workRam, bankedRam, extraOam, register, unmapped, placeOf, writable}
+use Rattle.registers.specs.Map.{Place, workRam, bankedRam, extraOam, register, dmaStart, unmapped, placeOf, writable}
 use Rattle.map_write.specs.Write.{stateAt, locked, storedOf, mapWriteOf}
 use Rattle.map_write.specs.declared.MapWritten.{MapWritten}
 use Rattle.map_write.specs.declared.WriteInput.{WriteInput}
 use Rattle.blackout.specs.Blackout.{latencyAfterWake, drainedOf, wokenOf}
 use Rattle.speed_switch.specs.Switch.{blackoutOf, switchedOf}
-use Rattle.engine.specs.Calls.{fallenState}
+use Rattle.object_dma_calls.proofs.CycleSteps.{cycle-keeps}
+use Rattle.engine.specs.Calls.{fallenState, insideBus, afterCycle}
 use Rattle.ledger.specs.Calls
 use Rattle.ledger.specs.Calls.{Call, Outcome, step}
 use Rattle.ledger.specs.Demand3.{History, RunsTo, at-power-on, called}
@@ -36,7 +37,7 @@ use Rattle.widths.proofs.Numbers.{less, set-bytes, zero-bytes}
 use Rattle.widths.proofs.Engine.{EngineFits, fall-fits, next-fits, drain-fits, bus-fits, lcd-fits, hdma5-fits, switch-fits}
 
 -- the numbers of the state outside the engine, besides the two that 7 tests
-record RestNumbers (b l f72 f73 f74 f75 a : ℕ) (x : List ℕ) : Type 0 where
+record RestNumbers (b l f72 f73 f74 f75 a e : ℕ) (x : List ℕ) : Type 0 where
   blackout : b < 2 ^ 32
   wake : l < 256
   ff72 : f72 < 256
@@ -44,12 +45,13 @@ record RestNumbers (b l f72 f73 f74 f75 a : ℕ) (x : List ℕ) : Type 0 where
   ff74 : f74 < 256
   ff75 : f75 < 256
   anchor : a < 2 ^ 64
+  start : e < 2 ^ 64
   extra : Bytes 24 x
 
 abbrev RestFits : Cgb → Type 0
 RestFits s =
     RestNumbers (s .«speed_switch_blackout») (latencyValue (s .«speed_switch_wake_latency»)) (s .ff72) (s .ff73) (s .ff74) (s .ff75)
-    (s .«console_state» .«blackout_anchor») (s .«extra_oam»)
+    (s .«console_state» .«blackout_anchor») (s .«object_dma» .«start_edge») (s .«extra_oam»)
 
 record Small (s : Cgb) : Type 0 where
   engine : EngineFits (s .«vram_dma»)
@@ -60,11 +62,11 @@ with-engine : (s : Cgb) (d : VramDma) → Small s → EngineFits d → Small (wi
 with-engine s d f e = record { engine = e; rest = f .rest }
 
 -- ---- writes
-module _ (s : Cgb) (w : WriteInput) (byte : w .value < 256) (f : Small s) where
+module _ (s : Cgb) (w : WriteInput) (byte : w .value < 256) (edge : w .«oam_start_edge» < 2 ^ 64) (f : Small s) where
   scratch :
       (f72 f73 f74 f75 : ℕ) → f72 < 256 → f73 < 256 → f74 < 256 → f75 < 256 →
       RestNumbers (s .«speed_switch_blackout») (latencyValue (s .«speed_switch_wake_latency»)) f72 f73 f74 f75
-      (s .«console_state» .«blackout_anchor») (s .«extra_oam»)
+      (s .«console_state» .«blackout_anchor») (s .«object_dma» .«start_edge») (s .«extra_oam»)
   scratch f72 f73 f74 f75 p q r t =
       let old = f .rest in
       record {
@@ -75,6 +77,7 @@ module _ (s : Cgb) (w : WriteInput) (byte : w .value < 256) (f : Small s) where
         ff74 = r;
         ff75 = t;
         anchor = old .anchor;
+        start = old .start;
         extra = old .extra;
       }
 
@@ -91,7 +94,26 @@ module _ (s : Cgb) (w : WriteInput) (byte : w .value < 256) (f : Small s) where
           ff74 = old .ff74;
           ff75 = old .ff75;
           anchor = old .anchor;
+          start = old .start;
           extra = set-bytes 24 (s .«extra_oam») i (w .value) (old .extra) byte;
+        };
+      }
+
+  object-started : Small (stateAt s w dmaStart)
+  object-started =
+      let old = f .rest in
+      record {
+        engine = f .engine;
+        rest = record {
+          blackout = old .blackout;
+          wake = old .wake;
+          ff72 = old .ff72;
+          ff73 = old .ff73;
+          ff74 = old .ff74;
+          ff75 = old .ff75;
+          anchor = old .anchor;
+          start = edge;
+          extra = old .extra;
         };
       }
 
@@ -99,6 +121,7 @@ module _ (s : Cgb) (w : WriteInput) (byte : w .value < 256) (f : Small s) where
   stored (workRam i) = f
   stored (bankedRam i) = f
   stored (extraOam i) = extra-set i
+  stored dmaStart = object-started
   stored unmapped = f
   stored (register KEY0) = f
   stored (register KEY1) = record { engine = f .engine; rest = f .rest }
@@ -154,7 +177,8 @@ nearer false (latency.Some n) h = h
 module _ (s : Cgb) (f : Small s) where
   -- other blackout, wake and anchor
   timed :
-      (b l a : ℕ) → b < 2 ^ 32 → l < 256 → a < 2 ^ 64 → RestNumbers b l (s .ff72) (s .ff73) (s .ff74) (s .ff75) a (s .«extra_oam»)
+      (b l a : ℕ) → b < 2 ^ 32 → l < 256 → a < 2 ^ 64 →
+      RestNumbers b l (s .ff72) (s .ff73) (s .ff74) (s .ff75) a (s .«object_dma» .«start_edge») (s .«extra_oam»)
   timed b l a p q r =
       let old = f .rest in
       record {
@@ -165,12 +189,13 @@ module _ (s : Cgb) (f : Small s) where
         ff74 = old .ff74;
         ff75 = old .ff75;
         anchor = r;
+        start = old .start;
         extra = old .extra;
       }
 
   given-small : (c : Call) → FitsCall c → Small (givenBy s c .state)
   unfolding fallenState switchedOf drainedOf wokenOf
-  given-small (Calls.write a w n byte) i = written s w (lit< byte) f a
+  given-small (Calls.write a w n byte) i = written s w (lit< byte) (i .1) f a
   given-small (Calls.read a n) i = f
   given-small (Calls.fall x) i =
       record { engine = fall-fits x (s .«double_speed») (s .«vram_dma») (i .«master_edge») (f .engine); rest = f .rest }
@@ -203,6 +228,30 @@ module _ (s : Cgb) (f : Small s) where
   given-small (Calls.arbitrate x) i = record { engine = record { block = f .engine .block; arb = f .engine .arb }; rest = f .rest }
   given-small (Calls.conflict a) i = f
   given-small (Calls.query q) i = f
+  given-small (Calls.arbitrate-inside x) i = record { engine = record { block = f .engine .block; arb = f .engine .arb }; rest = f .rest }
+  given-small (Calls.bus-call-inside x n) i = with-engine s _ f (bus-fits (insideBus s x) (s .«vram_dma») (f .engine))
+  given-small (Calls.object-dma-cycle a n) i = cycled
+    where
+      edge-stays : afterCycle a (s .«object_dma») .«start_edge» ≡ s .«object_dma» .«start_edge»
+      edge-stays = cycle-keeps a (s .«object_dma») .1
+
+      cycled : Small (givenBy s (Calls.object-dma-cycle a n) .state)
+      cycled =
+          let old = f .rest in
+          record {
+            engine = f .engine;
+            rest = record {
+              blackout = old .blackout;
+              wake = old .wake;
+              ff72 = old .ff72;
+              ff73 = old .ff73;
+              ff74 = old .ff74;
+              ff75 = old .ff75;
+              anchor = old .anchor;
+              start = rw edge-stays (old .start);
+              extra = old .extra;
+            };
+          }
 
 step-small : (s : Cgb) → Small s → (c : Call) → FitsCall c → Small (step s c .state)
 step-small s f c i = either-way s (λ (o : Outcome). Small (o .state)) c (λ none. given-small s f c i) (λ refused. f)
@@ -223,6 +272,7 @@ power-on-small compat =
         ff74 = lit< tt;
         ff75 = lit< tt;
         anchor = lit< tt;
+        start = lit< tt;
         extra = zero-bytes 24;
       };
     }
@@ -274,6 +324,11 @@ run-fits h s r i =
       «extra_oam» = rest .extra;
       selected = omega (arith, within .banks .bank);
       «blackout_anchor» = rest .anchor;
+      object = record {
+        page = omega (arith, within .object .page);
+        counted = omega (arith, within .object .counted);
+        «start_edge» = rest .start;
+      };
     }
 
 pub widths : Widths

@@ -24,7 +24,7 @@ pub record FitsBus (i : BusInput) : Type 0 where
   pub «oam_start_edge» : IsEdge (i .«oam_start_edge»)
 
 abbrev pub FitsCall : Call → Type 0
-FitsCall (Calls.write a w n byte) = a < 2 ^ 16
+FitsCall (Calls.write a w n byte) = (a < 2 ^ 16) × IsEdge (w .«oam_start_edge»)
 FitsCall (Calls.read a n) = a < 2 ^ 16
 FitsCall (Calls.fall i) = FitsFall i
 FitsCall Calls.next-pair = Unit {0}
@@ -38,6 +38,9 @@ FitsCall (Calls.wake boundary) = Unit {0}
 FitsCall (Calls.arbitrate i) = Unit {0}
 FitsCall (Calls.conflict a) = a < 2 ^ 16
 FitsCall (Calls.query q) = Unit {0}
+FitsCall (Calls.arbitrate-inside i) = Unit {0}
+FitsCall (Calls.bus-call-inside i n) = Unit {0}
+FitsCall (Calls.object-dma-cycle a n) = Unit {0}
 
 -- every call of a history
 unfoldable pub FitsHistory : History → Type 0

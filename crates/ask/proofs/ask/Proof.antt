@@ -121,10 +121,22 @@ returns-13 c =
       c .before .before .enum-told13 .given .1,
     )
 
+returns-14 : tie.Need-returns-14
+unfolding askedOf
+returns-14 c =
+    rw (
+      c .of-object-dma .ensures,
+      c .before .object-dma .ensures .is,
+      c .before .before .enum-told14 .given .1,
+    )
+
 pub ask-spec : {M : Type 1} → statement M
 ask-spec =
     tie.close
     (tie.spec
+    (λ c. search needs)
+    (λ _ _. tt)
+    (λ _ _. tt)
     (λ c. search needs)
     (λ _ _. tt)
     (λ _ _. tt)
@@ -176,4 +188,5 @@ ask-spec =
     returns-10
     returns-11
     returns-12
-    returns-13)
+    returns-13
+    returns-14)

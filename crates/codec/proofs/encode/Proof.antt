@@ -6,7 +6,8 @@ use Rattle.codec.proofs.encode.Tie as tie
 returns : tie.Need-returns
 unfolding sized
 returns c =
-    let c6 = c .before .before .before in
+    let c7 = c .before .before .before in
+    let c6 = c7 .before .before .before in
     let c5 = c6 .before .before .before in
     let c4 = c5 .before .before in
     let c3 = c4 .before .before .before in
@@ -14,7 +15,8 @@ returns c =
     let c1 = c2 .before .before .before in
     let s = c1 .before .before .before .args .state in
     rw (
-      c .put-bank .ensures,
+      c .put-object .ensures,
+      c7 .put-bank .ensures,
       c6 .put-extra .ensures .0,
       c5 .put-registers .ensures,
       c4 .put-oam .ensures,
@@ -27,6 +29,7 @@ pub encode-spec : {M : Type 1} → statement M
 encode-spec =
     tie.close
     (tie.spec
+    (λ _ _. tt)
     (λ _ _. tt)
     (λ _ _. tt)
     (λ _ _. tt)

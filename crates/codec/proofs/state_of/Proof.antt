@@ -7,12 +7,14 @@ use Rattle.codec.proofs.state_of.Tie as tie
 returns : tie.Need-returns
 unfolding stateOf
 returns c =
-    let c4 = c .before .before in
+    let c5 = c .before in
+    let c4 = c5 .before .before in
     let c3 = c4 .before in
     let c2 = c3 .before in
     let c1 = c2 .before in
     rw (
-      c .console-of .ensures,
+      c .object-of .ensures,
+      c5 .console-of .ensures,
       c4 .extra-of .ensures,
       c3 .latency-of .ensures,
       c2 .dma-of .ensures,
@@ -28,5 +30,6 @@ state-of-spec =
     (λ _ _. tt)
     (λ _ _. tt)
     (λ _. lit< tt)
+    (λ _ _. tt)
     (λ _ _. tt)
     returns)

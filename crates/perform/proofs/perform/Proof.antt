@@ -1,5 +1,5 @@
 -- `perform` meets its contract. Assumes nothing.
-use Rattle.perform.proofs.Outcomes.{performs-write, performs-read, performs-bus, performs-plain}
+use Rattle.perform.proofs.Outcomes.{performs-write, performs-read, performs-bus, performs-bus-inside, performs-cycle, performs-plain}
 use borrow.Author.Needs.{needs}
 use Rattle.perform.proofs.perform.Statement.{statement}
 use Rattle.perform.proofs.perform.Tie as tie
@@ -16,12 +16,26 @@ returns-3 c =
     performs-bus _ _ _ _ _ _ _ _ _ _ (moved .before .before .before .before .before .call3 .given .1) (moved .bus .ensures)
 
 returns-4 : tie.Need-returns-4
-returns-4 c = performs-plain _ _ _ _ _ _ _ _ (c .before .before .call4 .given .1) (c .plain .ensures)
+returns-4 c =
+    let moved = c .before .before .before .before in
+    performs-bus-inside _ _ _ _ _ _ _ _ _ _ (moved .before .before .before .before .before .call4 .given .1) (moved .bus-inside .ensures)
+
+returns-5 : tie.Need-returns-5
+returns-5 c =
+    let moved = c .before .before .before in
+    performs-cycle _ _ _ _ _ _ _ _ _ (moved .before .before .before .before .call5 .given .1) (c .before .before .cycle .ensures)
+
+returns-6 : tie.Need-returns-6
+returns-6 c = performs-plain _ _ _ _ _ _ _ _ (c .before .before .call6 .given .1) (c .plain .ensures)
 
 pub perform-spec : {M : Type 1} → statement M
 perform-spec =
     tie.close
     (tie.spec
+    (λ c. search needs)
+    (λ _ _. tt)
+    (λ c. search needs)
+    (λ _ _. tt)
     (λ c. search needs)
     (λ _ _. tt)
     (λ c. search needs)
@@ -38,4 +52,12 @@ perform-spec =
     (λ c. search needs)
     (λ c. search needs)
     returns-3
-    returns-4)
+    (λ c. search needs)
+    (λ c. search needs)
+    (λ c. search needs)
+    returns-4
+    (λ c. search needs)
+    (λ c. search needs)
+    (λ c. search needs)
+    returns-5
+    returns-6)

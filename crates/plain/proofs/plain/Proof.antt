@@ -31,15 +31,20 @@ returns-9 : tie.Need-returns-9
 returns-9 c = rw (c .arbitrated .ensures, c .before .before .call5 .given .1)
 
 returns-10 : tie.Need-returns-10
-returns-10 c = rw (c .conflict .ensures, c .before .before .call6 .given .1)
+returns-10 c = rw (c .arbitrated-inside .ensures, c .before .before .call6 .given .1)
 
 returns-11 : tie.Need-returns-11
-returns-11 c = rw (c .asked .ensures, c .before .before .call7 .given .1)
+returns-11 c = rw (c .conflict .ensures, c .before .before .call7 .given .1)
+
+returns-12 : tie.Need-returns-12
+returns-12 c = rw (c .asked .ensures, c .before .before .call8 .given .1)
 
 pub plain-spec : {M : Type 1} → statement M
 plain-spec =
     tie.close
     (tie.spec
+    (λ c. search needs)
+    (λ _ _. tt)
     (λ c. search needs)
     (λ _ _. tt)
     (λ c. search needs)
@@ -72,4 +77,5 @@ plain-spec =
     returns-8
     returns-9
     returns-10
-    returns-11)
+    returns-11
+    returns-12)

@@ -20,7 +20,15 @@ returns-3 c = simp (c .bus-input .ensures, c .before .match .keys3)
 
 returns-4 : tie.Need-returns-4
 unfolding callOf
-returns-4 c =
+returns-4 c = simp (c .cycle .ensures, c .before .match .keys4)
+
+returns-5 : tie.Need-returns-5
+unfolding callOf
+returns-5 c = simp (c .hold-input .ensures, c .before .match .keys5)
+
+returns-6 : tie.Need-returns-6
+unfolding callOf
+returns-6 c =
     let other = c .before .before in
     c .wrapped .ensures
     ∙ ap callIn (c .before .plain .ensures)
@@ -35,9 +43,14 @@ decode-spec =
     (λ _ _. tt)
     (λ _ _. tt)
     (λ _ _. tt)
+    (λ c. search needs)
+    (λ _ _. tt)
+    (λ _ _. tt)
     (λ _ _. tt)
     (λ _ _. tt)
     returns
     returns-2
     returns-3
-    returns-4)
+    returns-4
+    returns-5
+    returns-6)

@@ -17,6 +17,7 @@ returns c =
     let a = d .1 .1 .0 .1 .1 in
     let r8 = r4 .1 .1 .1 .1 in
     let e = r8 .1 .1 .1 .1 in
+    let o = e .1 .1 .1 .0 .1 .1 in
     let x = c .before .args .state .«extra_oam» in
     record {
       cursor = record { source = u .0 .1; dest = u .1 .0 .1; remaining = u .1 .1 .1 .0 .1; quota = u .1 .1 .1 .1 .0 .1 };
@@ -47,6 +48,7 @@ returns c =
       «extra_oam» = record { long = length-unmapped ℕ x 24 (e .0 .1 .0 .1); small = λ j. elem-fits-field w8 w8 x (e .0 .0) j (e .0 .1 .1) tt .fits };
       selected = e .1 .0 .1 .1 .0 .1;
       «blackout_anchor» = e .1 .1 .0 .1 .1 .0 .1;
+      object = record { page = o .1 .0 .1; counted = o .1 .1 .0 .1; «start_edge» = o .1 .1 .1 .0 .1 };
     }
 
 pub every-state-fits-spec : {M : Type 1} → statement M

@@ -7,28 +7,33 @@ use Rattle.console.specs.Reached.{unreached}
 use Rattle.console.proofs.Cgb.unreached.Statement.{statement}
 use Rattle.console.proofs.Cgb.unreached.Tie as tie
 
--- a, b, c and f are the engine's tests, d and e the banks'
+-- a, b, c and f are the engine's tests, d and e the banks', g and h object DMA's
 by-part :
-    (a b c d e f : Bool) → (((((a || b) || c) || d) || e) || f) ≡ ((a || (b || (c || (f || false)))) || ((d || (e || false)) || false))
-by-part true b c d e f = refl
-by-part false true c d e f = refl
-by-part false false true d e f = refl
-by-part false false false true e true = refl
-by-part false false false true e false = refl
-by-part false false false false true true = refl
-by-part false false false false true false = refl
-by-part false false false false false true = refl
-by-part false false false false false false = refl
+    (a b c d e f g h : Bool) →
+    (((((((a || b) || c) || d) || e) || f) || g) || h) ≡
+    ((a || (b || (c || (f || false)))) || ((d || (e || false)) || ((g || (h || false)) || false)))
+by-part true b c d e f g h = refl
+by-part false true c d e f g h = refl
+by-part false false true d e f g h = refl
+by-part false false false true e true g h = refl
+by-part false false false true e false g h = refl
+by-part false false false false true true g h = refl
+by-part false false false false true false g h = refl
+by-part false false false false false true g h = refl
+by-part false false false false false false true h = refl
+by-part false false false false false false false true = refl
+by-part false false false false false false false false = refl
 
 returns : tie.Need-returns
 unfolding unreached
 returns c =
-    let idle = c .before .before .before .before .before .before in
+    let idle = c .before .before .before .before .before .before .before .before in
     let s = idle .before .before .args .self in
     let d = s .«vram_dma» in
     rw (idle .is-idle .ensures)
     (by-part (ltb 2 (d .cursor .quota)) (ltb 16 (d .block .remaining)) (ltb 2048 (d .cursor .remaining)) (ltb 7 (s .svbk))
-    (ltb 1 (s .vram .selected)) (eqb (d .cursor .remaining) 0 && not (isIdle (d .cursor .mode))))
+    (ltb 1 (s .vram .selected)) (eqb (d .cursor .remaining) 0 && not (isIdle (d .cursor .mode)))
+    (ltb 160 (s .«object_dma» .counted)) (ltb 0xDF (s .«object_dma» .page)))
 
 pub unreached-spec : {M : Type 1} → statement M
 unreached-spec = tie.close (tie.spec (λ _ _. tt) returns)

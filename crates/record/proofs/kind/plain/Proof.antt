@@ -48,13 +48,18 @@ returns-10 c = simp (c .match .keys10)
 
 returns-11 : tie.Need-returns-11
 unfolding plainOf
-returns-11 c = c .asked .ensures ∙ sym (miss _ _ (plainKinds _) (c .before .match .rest))
+returns-11 c = simp (c .hold-input .ensures, c .before .match .keys11)
+
+returns-12 : tie.Need-returns-12
+unfolding plainOf
+returns-12 c = c .asked .ensures ∙ sym (miss _ _ (plainKinds _) (c .before .match .rest))
 
 pub plain-spec : {M : Type 1} → statement M
 plain-spec =
     tie.close
     (tie.spec
     (λ c. search needs)
+    (λ _ _. tt)
     (λ _ _. tt)
     (λ _ _. tt)
     (λ _ _. tt)
@@ -72,4 +77,5 @@ plain-spec =
     returns-8
     returns-9
     returns-10
-    returns-11)
+    returns-11
+    returns-12)

@@ -59,7 +59,11 @@ returns-13 c = simp (c .match .keys13)
 
 returns-14 : tie.Need-returns-14
 unfolding queryKind
-returns-14 c = sym (miss _ _ queryKinds (c .match .rest))
+returns-14 c = simp (c .match .keys14)
+
+returns-15 : tie.Need-returns-15
+unfolding queryKind
+returns-15 c = sym (miss _ _ queryKinds (c .match .rest))
 
 pub query-spec : {M : Type 1} → statement M
 query-spec =
@@ -78,4 +82,5 @@ query-spec =
     returns-11
     returns-12
     returns-13
-    returns-14)
+    returns-14
+    returns-15)

@@ -6,16 +6,16 @@ use native.Mathlib.Omega.{arith}
 use borrow.Author.Tests.{lt-ltb, le-ltb}
 use lib.ListN.{length}
 use Rattle.arithmetic.specs.Number.{bytesAt}
-use Rattle.record.specs.Input.{fallInputOf, switchInputOf, busInputOf, arbitrationInputOf}
+use Rattle.record.specs.Input.{fallInputOf, switchInputOf, busInputOf, arbitrationInputOf, holdInputOf}
 use Rattle.record.specs.Kind.{plainOf}
-use Rattle.record.specs.Record.{callOf}
+use Rattle.record.specs.Record.{cycleIn, callOf}
 use Rattle.replay_step.specs.Record.{recordOf, recordAtStart}
 use Rattle.replay_step.proofs.read.record_of.Statement.{statement}
 use Rattle.replay_step.proofs.read.record_of.Tie as tie
 
 -- a record reads nothing behind its first 16 bytes
 first-sixteen : (bytes : List ℕ) → recordOf (bytesAt bytes 0 16) ≡ recordOf bytes
-unfolding recordOf callOf plainOf fallInputOf switchInputOf busInputOf arbitrationInputOf
+unfolding recordOf callOf cycleIn plainOf fallInputOf switchInputOf busInputOf arbitrationInputOf holdInputOf
 first-sixteen bytes = refl
 
 returns : tie.Need-returns

@@ -1,8 +1,8 @@
 -- `wrong_lengths` meets its contract. Assumes nothing.
 use mathlib.Core.Path.{refl}
-use Rattle.bus_calls.specs.BusCall.{wrongLengths}
-use Rattle.bus_calls.proofs.bus_call.wrong_lengths.Statement.{statement}
-use Rattle.bus_calls.proofs.bus_call.wrong_lengths.Tie as tie
+use Rattle.memory.specs.Lengths.{wrongLengths}
+use Rattle.memory.proofs.wrong_lengths.Statement.{statement}
+use Rattle.memory.proofs.wrong_lengths.Tie as tie
 
 returns : tie.Need-returns
 unfolding wrongLengths

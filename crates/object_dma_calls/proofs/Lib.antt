@@ -1,0 +1,3 @@
+pub mod Cycles
+pub mod CycleSteps
+pub mod Queries
