@@ -1,6 +1,9 @@
 //! Aimed vectors: calls on states at rest but for what is named, each condition of the engine on and off by itself, each limit
 //! at its number and beside it. A random state has nearly every field set, so that one condition more or less does not show in
-//! it; here nothing else stands in its way. The original answers every one of them, as everywhere.
+//! it; here nothing else stands in its way. The original answers every one of them, as everywhere, and object DMA's the second
+//! reading.
+mod object_dma;
+
 use std::collections::HashSet;
 use std::io::Write;
 
@@ -920,7 +923,7 @@ fn two_reasons(a: &mut Aim) {
 /// What the exported entry declines by itself: a byte that no state has, at each sort of place; a record of no call; both, and
 /// the second with a state that fails refusal 7.
 fn entry(a: &mut Aim) {
-    let spare = Field(91, 1);
+    let spare = Field(102, 1);
     let last = Field(SIZE - 1, 1);
     let bytes = [MODE, ESCAPE, TAKEN, PEND, CONTENDED, KEY1, LATENCY, STANDING, spare, last];
     let none = [kind::LAST + 1, 99, 255].map(plain);
@@ -933,10 +936,15 @@ fn entry(a: &mut Aim) {
     a.around(a.rest().with(&[(LATENCY, 0), (LATENCY_LEFT, 1)]), &[], &[plain(kind::TALLY)]);
 }
 
+/// Object DMA's lists alone, for what is asserted of them.
+pub fn check_lists() {
+    object_dma::lists(&mut Aim { oracle: Oracle::new(), out: &mut std::io::sink(), seen: HashSet::new() });
+}
+
 pub fn write_all(out: &mut dyn Write) {
     let mut a = Aim { oracle: Oracle::new(), out, seen: HashSet::new() };
     type Part = (&'static str, fn(&mut Aim));
-    let parts: [Part; 20] = [
+    let parts: [Part; 30] = [
         ("write conflict", conflict),
         ("questions", questions),
         ("arbitration", arbitration),
@@ -957,6 +965,16 @@ pub fn write_all(out: &mut dyn Write) {
         ("refusal 7", unreached),
         ("two reasons", two_reasons),
         ("the entry's own", entry),
+        ("object DMA: write", object_dma::starts),
+        ("object DMA: M-cycle", object_dma::cycles),
+        ("object DMA: sources", object_dma::cycle_sources),
+        ("object DMA: M-cycle's refusals", object_dma::cycle_refusals),
+        ("object DMA: arbitration", object_dma::inside_arbitration),
+        ("object DMA: bus", object_dma::inside_bus),
+        ("object DMA: query and refusal 7", object_dma::queries),
+        ("object DMA: kept", object_dma::kept),
+        ("object DMA: bytes of no state", object_dma::no_state),
+        ("object DMA: lists", object_dma::lists),
     ];
     power_on(&mut a);
     for (name, part) in parts {

@@ -4,7 +4,7 @@
 pub const SIZE: usize = 24;
 
 /// Byte 0 the refusal or 0, 1 zero, 2-9 four values of two bytes, 10-17 the pairs of a bus call, each as source and
-/// destination, 18 and 19 their bytes, 20-23 zero.
+/// destination, 18 and 19 their bytes, 20-23 zero. Of object DMA's M-cycle 18 is the byte moved.
 #[derive(Clone, Copy, Default, Debug, PartialEq)]
 pub struct Answer(pub [u8; SIZE]);
 
@@ -30,6 +30,12 @@ impl Answer {
         self.0[at..at + 2].copy_from_slice(&source.to_le_bytes());
         self.0[at + 2..at + 4].copy_from_slice(&dest.to_le_bytes());
         self.0[18 + k] = byte;
+        self
+    }
+
+    /// With the byte that object DMA moved.
+    pub fn with_byte(mut self, byte: u8) -> Self {
+        self.0[18] = byte;
         self
     }
 

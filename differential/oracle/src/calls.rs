@@ -1,6 +1,7 @@
 //! The calls of document 01, performed by the original. A refusal that the original has no word for is
 //! decided here by document 01's list; where the original says no (5, 11, 12, 13) or overflows (14), the
 //! number is given only because it did, and it is an error of the comparison if it does so elsewhere.
+//! What document 02's A1 adds, object DMA, the original does not have: the second reading (object_dma.rs) performs that.
 use std::panic::{AssertUnwindSafe, catch_unwind};
 
 use missingno_gb::ppu::memory::{Vram, VramAddress};
@@ -11,6 +12,7 @@ use crate::answer::Answer;
 use crate::kind;
 use crate::layout::{self, SIZE};
 use crate::memory::{self, Change, filled};
+use crate::object_dma::{self, Arbitration, Cycle, ObjectDma};
 use crate::{Cgb, VramDmaStatus};
 
 /// A call: the replay's record of 16 bytes (byte 1 is the seed of memory's contents), and the lengths of the
@@ -41,6 +43,35 @@ impl Call {
         let right = [memory::CARTRIDGE, memory::WRAM, memory::VRAM, memory::OAM];
         self.lengths[which] as usize == right[which]
     }
+    pub fn writes_ff46(&self) -> bool {
+        self.record[0] == kind::WRITE && self.address() == object_dma::REGISTER
+    }
+    /// Other records get 6: those of another kind, and an M-cycle of object DMA without an answer of arbitration's.
+    fn is_call(&self) -> bool {
+        match self.record[0] {
+            kind::OBJECT_DMA_M_CYCLE => Arbitration::numbered(self.record[4]).is_some(),
+            kind => (1..=kind::LAST).contains(&kind),
+        }
+    }
+    pub fn side(&self) -> Side {
+        match self.record[0] {
+            _ if self.writes_ff46() => Side::SecondReading,
+            kind::OBJECT_DMA_M_CYCLE | kind::OBJECT_DMA => Side::SecondReading,
+            kind::ARBITRATION_FROM_INSIDE | kind::BUS_CALL_FROM_INSIDE => Side::Joined,
+            _ => Side::Original,
+        }
+    }
+}
+
+/// Whose the answer is.
+#[derive(Clone, Copy, Debug, PartialEq)]
+pub enum Side {
+    /// The original's alone; the second reading's state stays.
+    Original,
+    /// The second reading's alone; the original's state stays.
+    SecondReading,
+    /// The original's, with one input from the second reading's state.
+    Joined,
 }
 
 pub struct Outcome {
@@ -55,10 +86,17 @@ impl Outcome {
     }
 }
 
-/// Refusal 7, on the bytes.
+/// Refusal 7, on the bytes: document 01's six tests, then document 02's two.
 pub fn unreached(state: &[u8; SIZE]) -> bool {
     let left = u16::from_le_bytes([state[5], state[6]]);
-    state[7] > 2 || state[9] > 16 || left > 2048 || state[41] > 7 || state[80] > 1 || (left == 0 && state[4] != 0)
+    state[7] > 2
+        || state[9] > 16
+        || left > 2048
+        || state[41] > 7
+        || state[80] > 1
+        || (left == 0 && state[4] != 0)
+        || state[92] > object_dma::LAST_PAGE
+        || state[93] > object_dma::BYTES
 }
 
 pub fn mode(number: u8) -> Mode {
@@ -86,6 +124,7 @@ pub fn switch_refusal(cgb: &Cgb, hold: bool) -> u8 {
 pub struct Oracle {
     cgb: Cgb,
     chassis: Chassis<Cgb>,
+    object_dma: ObjectDma,
     /// Memory is filled by each call's seed, and what a call changed is listed. Without it memory stays as it is.
     pub refills: bool,
 }
@@ -93,22 +132,22 @@ pub struct Oracle {
 impl Oracle {
     pub fn new() -> Self {
         std::panic::set_hook(Box::new(|_| {}));
-        Self { cgb: Cgb::default(), chassis: Chassis::new(), refills: true }
+        Self { cgb: Cgb::default(), chassis: Chassis::new(), object_dma: ObjectDma::default(), refills: true }
     }
 
     /// The state at power-on.
     pub fn power_on(&self, compat: bool) -> [u8; SIZE] {
         let mut cgb = Cgb::default();
         cgb.dmg_compat = compat;
-        layout::encode(&cgb, &crate::CgbVram::default())
+        layout::encode(&cgb, &crate::CgbVram::default(), &ObjectDma::default())
     }
 
     fn load(&mut self, state: &[u8; SIZE]) {
-        layout::decode(state, &mut self.cgb, &mut self.chassis.vram_bus.vram);
+        layout::decode(state, &mut self.cgb, &mut self.chassis.vram_bus.vram, &mut self.object_dma);
     }
 
     fn store(&self) -> [u8; SIZE] {
-        layout::encode(&self.cgb, &self.chassis.vram_bus.vram)
+        layout::encode(&self.cgb, &self.chassis.vram_bus.vram, &self.object_dma)
     }
 
     /// The whole of memory, as the calls left it: cartridge, WRAM, VRAM, OAM.
@@ -179,8 +218,8 @@ impl Oracle {
         changes
     }
 
-    /// Bytes are a state's if the original's state, written back, gives them again. FF4F's bank keeps one bit there; that it
-    /// has no other is a test of refusal 7.
+    /// Bytes are a state's if both states that they give, the original's and the second reading's, give them again. FF4F's bank
+    /// keeps one bit there; that it has no other is a test of refusal 7.
     fn is_state(&mut self, bytes: &[u8; SIZE]) -> bool {
         self.load(bytes);
         let mut again = self.store();
@@ -188,19 +227,61 @@ impl Oracle {
         again == *bytes
     }
 
-    /// A call as the exported entry takes it: 7 for bytes that are no state's, then 6 for a record of no call.
+    /// A call as the exported entry takes it: 7 for bytes that are no state's, before 6 for a record of no call.
     pub fn enter(&mut self, call: &Call, before: &[u8; SIZE]) -> Outcome {
         if !self.is_state(before) {
             return Outcome::declined(7, before);
         }
-        if !(1..=kind::LAST).contains(&call.record[0]) {
-            return Outcome::declined(6, before);
-        }
         self.perform(call, before)
+    }
+
+    /// The bus call of the original, told object DMA's start edge.
+    fn commit_bytes(&mut self, call: &Call, start_edge: u64) -> Answer {
+        self.cgb.console_state.set_dma_cpu_hold(call.bit(0));
+        self.cgb.console_state.set_bus_suspended(call.bit(1));
+        self.chassis.dma.edge = start_edge;
+        self.chassis.commits.clear();
+        let cells = self.cgb.vram_dma.block.setup_cells.remaining();
+        self.cgb.vram_dma_commit_bytes(&mut self.chassis);
+        // Pairs land in VRAM, a deposit in OAM's page.
+        let moved = |c: &&(u16, u16, u8)| c.1 < 0xA000;
+        let pairs: Vec<_> = self.chassis.commits.iter().filter(moved).collect();
+        assert!(pairs.len() <= 2 && self.chassis.commits.len() <= pairs.len() + 1);
+        let cell = self.cgb.vram_dma.block.setup_cells.remaining() < cells;
+        let mut answer = Answer::values(&[pairs.len() as u16, cell.into()]);
+        for (k, (source, dest, byte)) in pairs.iter().enumerate() {
+            answer = answer.with_pair(k, *source, *dest, *byte);
+        }
+        answer
+    }
+
+    /// Arbitration of the original, told whether object DMA transfers.
+    fn arbitrate(&mut self, call: &Call, transferring: bool) -> Answer {
+        self.cgb.console_state.set_dma_cpu_hold(call.bit(0));
+        self.cgb.console_state.set_bus_suspended(call.bit(1));
+        self.chassis.dma.transferring = transferring;
+        self.chassis.dma.stalled = false;
+        let either = self.cgb.vram_dma_arbitrate_oam_bus(&mut self.chassis);
+        let stalled = self.chassis.dma.stalled;
+        assert!(either || !stalled);
+        Answer::value(if stalled { 2 } else { either as u8 })
+    }
+
+    /// The M-cycle of the second reading.
+    fn m_cycle(&mut self, call: &Call) -> Answer {
+        let said = Arbitration::numbered(call.record[4]).expect("other records are no call's");
+        match self.object_dma.m_cycle(said, &self.cgb, &mut self.chassis) {
+            Cycle::Nothing => Answer::value(0u8),
+            Cycle::Moved { source, byte } => Answer::values(&[1, source]).with_byte(byte),
+            Cycle::PassedOver { source } => Answer::values(&[2, source]),
+        }
     }
 
     pub fn perform(&mut self, call: &Call, before: &[u8; SIZE]) -> Outcome {
         let declined = |number: u8| Outcome::declined(number, before);
+        if !call.is_call() {
+            return declined(6);
+        }
         if unreached(before) {
             return declined(7);
         }
@@ -209,6 +290,16 @@ impl Oracle {
         let mut changes = Vec::new();
         let seed = call.record[1];
         match call.record[0] {
+            kind::WRITE if call.writes_ff46() => {
+                if !call.whole(1) {
+                    return declined(2);
+                }
+                let (ppu, vram) = (&mut self.chassis.ppu, &mut self.chassis.vram_bus.vram);
+                assert!(!self.cgb.map_write_byte(call.address(), call.record[4], ppu, vram), "the original has FF46");
+                if !self.object_dma.write(call.record[4], call.edge()) {
+                    return declined(21);
+                }
+            }
             kind::WRITE | kind::READ => {
                 if !call.whole(1) {
                     return declined(2);
@@ -299,38 +390,24 @@ impl Oracle {
                 let elapsed = u32::from_le_bytes(call.record[8..12].try_into().unwrap());
                 answer = Answer::value(self.cgb.drain_blackout(elapsed));
             }
-            kind::BUS_CALL => {
+            kind::BUS_CALL | kind::BUS_CALL_FROM_INSIDE | kind::OBJECT_DMA_M_CYCLE => {
                 if !(0..4).all(|k| call.whole(k)) {
                     return declined(2);
                 }
                 self.fill_wram(seed);
                 self.fill_bus(seed);
-                self.cgb.console_state.set_dma_cpu_hold(call.bit(0));
-                self.cgb.console_state.set_bus_suspended(call.bit(1));
-                self.chassis.dma.edge = call.edge();
-                self.chassis.commits.clear();
-                let cells = self.cgb.vram_dma.block.setup_cells.remaining();
-                self.cgb.vram_dma_commit_bytes(&mut self.chassis);
+                answer = match call.record[0] {
+                    kind::BUS_CALL => self.commit_bytes(call, call.edge()),
+                    kind::BUS_CALL_FROM_INSIDE => self.commit_bytes(call, self.object_dma.start_edge),
+                    _ => self.m_cycle(call),
+                };
                 changes = self.changed_bus(seed);
-                // Pairs land in VRAM, a deposit in OAM's page.
-                let moved = |c: &&(u16, u16, u8)| c.1 < 0xA000;
-                let pairs: Vec<_> = self.chassis.commits.iter().filter(moved).collect();
-                assert!(pairs.len() <= 2 && self.chassis.commits.len() <= pairs.len() + 1);
-                let cell = self.cgb.vram_dma.block.setup_cells.remaining() < cells;
-                answer = Answer::values(&[pairs.len() as u16, cell.into()]);
-                for (k, (source, dest, byte)) in pairs.iter().enumerate() {
-                    answer = answer.with_pair(k, *source, *dest, *byte);
-                }
             }
-            kind::ARBITRATION => {
-                self.cgb.console_state.set_dma_cpu_hold(call.bit(0));
-                self.cgb.console_state.set_bus_suspended(call.bit(1));
-                self.chassis.dma.transferring = call.bit(2);
-                self.chassis.dma.stalled = false;
-                let either = self.cgb.vram_dma_arbitrate_oam_bus(&mut self.chassis);
-                let stalled = self.chassis.dma.stalled;
-                assert!(either || !stalled);
-                answer = Answer::value(if stalled { 2 } else { either as u8 });
+            kind::ARBITRATION => answer = self.arbitrate(call, call.bit(2)),
+            kind::ARBITRATION_FROM_INSIDE => answer = self.arbitrate(call, self.object_dma.runs()),
+            kind::OBJECT_DMA => {
+                let dma = &self.object_dma;
+                answer = Answer::values(&[dma.runs().into(), dma.counted.into(), dma.page.into()]);
             }
             kind::WRITE_CONFLICT => {
                 if let Some(source) = self.cgb.vram_dma_write_conflict_source(call.address()) {

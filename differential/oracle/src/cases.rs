@@ -1,5 +1,6 @@
 //! Document 01's cases, run through the original: each number of the paper is asserted of the original itself,
-//! and every call of every case is written as a vector, so that the port can be held beside it.
+//! and every call of every case is written as a vector, so that the port can be held beside it. Object DMA's lists, which the aimed
+//! vectors have, are run too.
 use std::io::Write;
 
 use crate::answer::Answer;
@@ -211,4 +212,6 @@ pub fn write(out: &mut dyn Write) {
         assert_eq!(c.ff55(), 0xFF);
     });
     eprintln!("K1 to K10: the original gives the paper's numbers");
+    crate::aimed::check_lists();
+    eprintln!("object DMA: the second reading gives the request's numbers");
 }

@@ -2,12 +2,13 @@
 //! entry, and answer, whole state and all of memory are compared after it. Half of the lists start at power-on, half of
 //! the calls at arbitrary states. A refusal is checked for its number, for an answer of that number and zeros, and for
 //! state and memory as before. What the original has no call for, a record of another kind and bytes that no state has,
-//! is given to the port alone, now and then.
+//! is given to the port alone, now and then. Object DMA, which it does not have, is held beside the second reading, and the
+//! report keeps the two apart.
 use cgb_vram_dma::Memory;
 use cgb_vram_dma::entry;
 
 use crate::answer::{self, Answer};
-use crate::calls::{Call, Oracle};
+use crate::calls::{Call, Oracle, Outcome, Side};
 use crate::finer;
 use crate::kind;
 use crate::layout::SIZE;
@@ -18,9 +19,9 @@ use crate::vectors;
 // The oracle's own layouts are held to the port's.
 const _: () = assert!(SIZE == entry::STATE_BYTES && answer::SIZE == entry::ANSWER_BYTES);
 
-/// Kind 0 is none.
+/// Kind 0 is none: a write to FF46, which is no call of the original's, stands there.
 const NAMES: [&str; kind::LAST as usize + 1] = [
-    "",
+    "write to FF46",
     "write",
     "fall",
     "next pair",
@@ -47,7 +48,27 @@ const NAMES: [&str; kind::LAST as usize + 1] = [
     "steps per dot",
     "WRAM bank",
     "SVBK",
+    "object DMA M-cycle",
+    "arbitration inside",
+    "bus inside",
+    "object DMA",
 ];
+
+/// The sides that a call is held beside, as the report names them.
+const SIDES: [(Side, &str); 3] = [
+    (Side::Original, "the original"),
+    (Side::Joined, "the original, with an input from the second reading"),
+    (Side::SecondReading, "the second reading"),
+];
+
+/// A call's place in the report.
+fn row(call: &Call) -> usize {
+    if call.writes_ff46() { 0 } else { call.record[0] as usize }
+}
+
+fn side(row: usize) -> Side {
+    if row == 0 { Side::SecondReading } else { Call::new(row as u8).side() }
+}
 
 /// The port's memory, each slice with a byte to spare for a length that is one long.
 struct Port {
@@ -55,7 +76,7 @@ struct Port {
 }
 
 /// Offsets of docs/STATE-LAYOUT.md at which no state has 3 or more: the mode, flags, the latency's tag, spare bytes.
-const STRICT: [usize; 10] = [4, 8, 18, 24, 40, 42, 49, 90, 91, SIZE - 1];
+const STRICT: [usize; 11] = [4, 8, 18, 24, 40, 42, 49, 90, 91, 102, SIZE - 1];
 
 /// The port's result, the state after and the answer's record.
 struct Gave {
@@ -100,6 +121,9 @@ struct Report {
     refusals: [[u64; 256]; KINDS],
     answers: [[u64; 3]; KINDS],
     deposits: u64,
+    /// M-cycles that counted object DMA's last byte, and deposits that came when none was left.
+    last_bytes: u64,
+    deposits_behind: u64,
     /// Given to the port alone: records of no call, and bytes that no state has.
     no_call: u64,
     no_state: u64,
@@ -113,6 +137,8 @@ impl Report {
             refusals: [[0; 256]; KINDS],
             answers: [[0; 3]; KINDS],
             deposits: 0,
+            last_bytes: 0,
+            deposits_behind: 0,
             no_call: 0,
             no_state: 0,
             differ: 0,
@@ -123,16 +149,39 @@ impl Report {
         let all: u64 = self.calls.iter().sum();
         println!("seed {seed}: {all} calls, {} differ", self.differ);
         println!("{:<20} {:>12}  first value 0, 1, 2 or more; refusals", "kind", "calls");
-        for k in 1..KINDS {
-            let answers: Vec<String> = self.answers[k].iter().map(u64::to_string).collect();
-            let refused: Vec<String> = (1..256)
-                .filter(|&n| self.refusals[k][n] > 0)
-                .map(|n| format!("{n}: {}", self.refusals[k][n]))
-                .collect();
-            println!("{:<20} {:>12}  {}; {}", NAMES[k], self.calls[k], answers.join(", "), refused.join(", "));
+        for (beside, name) in SIDES {
+            let rows: Vec<usize> = (0..KINDS).filter(|&k| side(k) == beside).collect();
+            println!("beside {name}: {}", rows.iter().map(|&k| self.calls[k]).sum::<u64>());
+            rows.into_iter().for_each(|k| self.print_row(k));
         }
         println!("deposits in OAM {}", self.deposits);
+        println!("object DMA's last byte counted {}, deposits behind it {}", self.last_bytes, self.deposits_behind);
         println!("records of no call, 6: {}; bytes that no state has, 7: {}", self.no_call, self.no_state);
+    }
+
+    fn print_row(&self, k: usize) {
+        let answers: Vec<String> = self.answers[k].iter().map(u64::to_string).collect();
+        let refused: Vec<String> =
+            (1..256).filter(|&n| self.refusals[k][n] > 0).map(|n| format!("{n}: {}", self.refusals[k][n])).collect();
+        println!("{:<20} {:>12}  {}; {}", NAMES[k], self.calls[k], answers.join(", "), refused.join(", "));
+    }
+
+    /// A call with the answer that it must have.
+    fn count(&mut self, call: &Call, before: &[u8; SIZE], answer: &Answer) {
+        let row = row(call);
+        self.calls[row] += 1;
+        self.refusals[row][answer.refusal() as usize] += 1;
+        if answer.refusal() != 0 {
+            return;
+        }
+        self.answers[row][answer.0[2].min(2) as usize] += 1;
+        let bus = matches!(call.record[0], kind::BUS_CALL | kind::BUS_CALL_FROM_INSIDE);
+        if bus && answer.nth(0) > 0 && before[40] == 1 {
+            self.deposits += 1;
+            self.deposits_behind += (before[91] == 0 && before[93] == 160) as u64;
+        }
+        let counts = call.record[0] == kind::OBJECT_DMA_M_CYCLE && answer.nth(0) > 0;
+        self.last_bytes += (counts && before[93] == 159) as u64;
     }
 }
 
@@ -187,7 +236,8 @@ impl Run {
             state[r.pick(&STRICT)] = 3 + r.below(253) as u8;
         }
         if !no_state || r.flag() {
-            call.record[0] = r.pick(&[0, kind::LAST + 1, 99, 255]);
+            call.record[0] = r.pick(&[0, kind::LAST + 1, 99, 255, kind::OBJECT_DMA_M_CYCLE]);
+            call.record[4] = 3 + r.below(253) as u8;
         }
         let spare = self.spare();
         let Gave { result, state: after, answer } = self.port.perform(&call, &state);
@@ -206,35 +256,25 @@ impl Run {
         }
     }
 
-    /// One call on both sides; the state after.
-    fn step(&mut self, mut call: Call, before: &[u8; SIZE]) -> [u8; SIZE] {
-        self.raise(&mut call);
-        let which = call.record[0] as usize;
+    /// One call on both sides; what the oracle answered and left.
+    fn step(&mut self, call: &Call, before: &[u8; SIZE]) -> Outcome {
         let spare = self.spare();
-        let outcome = self.oracle.perform(&call, before);
+        let outcome = self.oracle.perform(call, before);
         if outcome.answer.refusal() == 14 {
             // An overflow is a panic of the original, after which it starts anew.
             self.synchronise();
         }
-        let Gave { result, state, answer } = self.port.perform(&call, before);
-        let number = outcome.answer.refusal();
-        let mut same = result == number && answer == outcome.answer;
+        let Gave { result, state, answer } = self.port.perform(call, before);
+        let mut same = result == outcome.answer.refusal() && answer == outcome.answer;
         same &= state == outcome.state;
         same &= self.spare() == spare;
         same &= self.same_memory();
         if !same {
-            let original = outcome.answer;
-            self.differs(format!("{call:?}\n  before {before:?}\n  original {original:?}\n  port {answer:?}"));
+            let (side, wanted) = (call.side(), outcome.answer);
+            self.differs(format!("{call:?}\n  before {before:?}\n  {side:?} {wanted:?}\n  port {answer:?}"));
         }
-        self.report.calls[which] += 1;
-        self.report.refusals[which][number as usize] += 1;
-        if number == 0 {
-            self.report.answers[which][answer.0[2].min(2) as usize] += 1;
-        }
-        if call.record[0] == kind::BUS_CALL && number == 0 && answer.nth(0) > 0 && before[40] == 1 {
-            self.report.deposits += 1;
-        }
-        outcome.state
+        self.report.count(call, before, &outcome.answer);
+        outcome
     }
 }
 
@@ -259,13 +299,15 @@ pub fn run(given: &[String], usage: &str) {
         let mut now = run.oracle.power_on(compat);
         assert_eq!(now, run.port.power_on(compat));
         run.rising = rising.then_some(0);
-        let mut phase = 5;
+        let mut drive = vectors::Drive::new();
         for step in 0..if listed { 64 + r.below(960) } else { 128 } {
-            let mut call =
-                if listed { vectors::likely(&mut r, &kinds, step, &mut phase) } else { vectors::call(&mut r, &kinds) };
-            let before = if listed { now } else { vectors::state(&mut r) };
+            let mut call = if listed { drive.next(&mut r, &kinds, step) } else { vectors::call(&mut r, &kinds) };
+            let before = if listed { now } else { vectors::state(&mut r, &kinds) };
             finer::aim(&mut r, &mut call, &before);
-            now = run.step(call, &before);
+            run.raise(&mut call);
+            let outcome = run.step(&call, &before);
+            drive.heard(&call, &outcome.answer);
+            now = outcome.state;
             given += 1;
             if declining.one_in(64) {
                 run.decline(&mut declining, &kinds, &now);

@@ -74,8 +74,8 @@ fn near_rest(r: &mut Random, rest: &[u8; SIZE]) -> [u8; SIZE] {
 }
 
 /// An arbitrary state with one of its fields at a limit.
-fn at_limit(r: &mut Random) -> [u8; SIZE] {
-    let mut s = vectors::state(r);
+fn at_limit(r: &mut Random, kinds: &[u8]) -> [u8; SIZE] {
+    let mut s = vectors::state(r, kinds);
     let (at, width, most) = r.pick(&FIELDS);
     let value = limit(r, most).to_le_bytes();
     s[at..at + width].copy_from_slice(&value[..width]);
@@ -102,6 +102,7 @@ fn place(address: u16) -> u16 {
 /// What of a written value counts at an address.
 fn value_class(address: u16, value: u8) -> u8 {
     match address {
+        0xFF46 => (value > 0xDF) as u8,
         0xFF4D | 0xFF4F => value & 1 | (value > 1) as u8 * 2,
         0xFF55 => value & 0x80,
         0xFF70 => value & 7,
@@ -130,7 +131,9 @@ fn two_reasons(v: &Vector) -> bool {
         kind::FALL => r[4] > 3,
         kind::SPEED_SWITCH => r[4] > 4 || r[5] & 1 == 1,
         kind::READ | kind::WRITE => wrong_wram(&v.call),
-        kind::BUS_CALL => v.call.lengths != Call::new(kind::BUS_CALL).lengths,
+        kind::BUS_CALL | kind::BUS_CALL_FROM_INSIDE | kind::OBJECT_DMA_M_CYCLE => {
+            v.call.lengths != Call::new(kind::BUS_CALL).lengths
+        }
         _ => false,
     };
     unreached(&v.before) && other
@@ -145,7 +148,8 @@ fn own_sort(v: &Vector) -> Vec<u16> {
         kind::CLAIM => vec![answer.nth(1)],
         kind::WRITE_CONFLICT => vec![before[21].min(3) as u16],
         kind::SWITCH_IN_PROGRESS | kind::DIVIDER_ACTIVE => vec![blackout.min(7) as u16, before[43] as u16],
-        kind::BUS_CALL => vec![answer.nth(0), answer.nth(1), place(answer.pair(0).0)],
+        kind::BUS_CALL | kind::BUS_CALL_FROM_INSIDE => vec![answer.nth(0), answer.nth(1), place(answer.pair(0).0)],
+        kind::OBJECT_DMA_M_CYCLE => vec![answer.nth(0), answer.nth(1) >> 12],
         kind::WRAM_BANK | kind::SVBK_REGISTER => vec![answer.nth(0)],
         _ => Vec::new(),
     }
@@ -162,14 +166,13 @@ fn path(v: &Vector) -> Vec<u16> {
     v.touched().into_iter().map(|k| k as u16).collect()
 }
 
-pub fn select(seed: u64, count: u64) {
+pub fn select(seed: u64, count: u64, kinds: &[u8]) {
     let mut out = BufWriter::new(std::io::stdout().lock());
-    let kinds: Vec<u8> = (1..=kind::LAST).collect();
     let (mut r, mut oracle, mut seen) = (Random::new(seed), Oracle::new(), HashSet::new());
     for _ in 0..count {
         let rest = oracle.power_on(r.one_in(16));
-        let before = if r.one_in(4) { near_rest(&mut r, &rest) } else { at_limit(&mut r) };
-        let mut call = vectors::call(&mut r, &kinds);
+        let before = if r.one_in(4) { near_rest(&mut r, &rest) } else { at_limit(&mut r, kinds) };
+        let mut call = vectors::call(&mut r, kinds);
         aim(&mut r, &mut call, &before);
         #[cfg(branches)]
         crate::reached::begin();

@@ -1,6 +1,7 @@
 //! The state as the 248 bytes of docs/STATE-LAYOUT.md, written a second time and by hand: the port's codec
 //! is held against it too.
 use crate::Cgb;
+use crate::object_dma::ObjectDma;
 use crate::vram::CgbVram;
 use crate::vram_dma::{Countdown, TransferMode};
 use missingno_gb::ppu::memory::Vram;
@@ -36,7 +37,8 @@ pub fn mode_number(mode: &TransferMode) -> u8 {
     }
 }
 
-pub fn encode(cgb: &Cgb, vram: &CgbVram) -> [u8; SIZE] {
+/// The original's state, and behind it the second reading's.
+pub fn encode(cgb: &Cgb, vram: &CgbVram, object_dma: &ObjectDma) -> [u8; SIZE] {
     let mut w = Writer { bytes: [0; SIZE], at: 0 };
     let c = &cgb.vram_dma.cursor;
     w.many(&c.source.to_le_bytes());
@@ -88,6 +90,11 @@ pub fn encode(cgb: &Cgb, vram: &CgbVram) -> [u8; SIZE] {
     w.flag(claim.committed);
     w.flag(claim.standing);
     assert_eq!(w.at, 91);
+    w.flag(object_dma.running);
+    w.byte(object_dma.page);
+    w.byte(object_dma.counted);
+    w.many(&object_dma.start_edge.to_le_bytes());
+    assert_eq!(w.at, 102);
     w.bytes
 }
 
@@ -114,8 +121,8 @@ impl Reader<'_> {
     }
 }
 
-/// The original's state from its bytes. FF4F's bank goes through the register, which keeps one bit.
-pub fn decode(bytes: &[u8; SIZE], cgb: &mut Cgb, vram: &mut CgbVram) {
+/// The original's state and the second reading's from their bytes. FF4F's bank goes through the register, which keeps one bit.
+pub fn decode(bytes: &[u8; SIZE], cgb: &mut Cgb, vram: &mut CgbVram, object_dma: &mut ObjectDma) {
     let mut r = Reader { bytes, at: 0 };
     let c = &mut cgb.vram_dma.cursor;
     c.source = r.number(2) as u16;
@@ -176,4 +183,8 @@ pub fn decode(bytes: &[u8; SIZE], cgb: &mut Cgb, vram: &mut CgbVram) {
     let committed = r.flag();
     let standing = r.flag();
     cgb.console_state.set_vram_dma_claim(VramDmaClaim { committed, standing });
+    object_dma.running = r.flag();
+    object_dma.page = r.byte();
+    object_dma.counted = r.byte();
+    object_dma.start_edge = r.number(8);
 }

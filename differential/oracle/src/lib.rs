@@ -1,19 +1,21 @@
 //! The original VRAM DMA and speed switch as an oracle: its own files, unchanged, over document 01's
 //! stand-ins (the crate missingno_gb beside this one). It writes vectors: a call, the state before, the
-//! original's answer, the state and the changed bytes of memory after.
+//! original's answer, the state and the changed bytes of memory after. Object DMA, which the original does not have, is a
+//! second reading of document 02 (object_dma.rs), kept beside it.
 //!
 //!     MISSINGNO_SRC=.. cargo run --release -- vectors SEED COUNT [KINDS] > FILE
 //!     MISSINGNO_SRC=.. cargo run --release -- select SEED COUNT [KINDS] > FILE
+//!     MISSINGNO_SRC=.. cargo run --release -- object_dma SEED COUNT [KINDS] > FILE
 //!     MISSINGNO_SRC=.. cargo run --release -- cases > FILE
 //!     MISSINGNO_SRC=.. cargo run --release -- aimed > FILE
-//!     MISSINGNO_SRC=.. BRANCHES=1 cargo run --release -- finer SEED COUNT > FILE
+//!     MISSINGNO_SRC=.. BRANCHES=1 cargo run --release -- finer SEED COUNT [KINDS] > FILE
 //!     MISSINGNO_SRC=.. cargo run --release -- stored < FILE
 //!     MISSINGNO_SRC=.. cargo run --release -- script SEED COUNT > SCRIPT
 //!     MISSINGNO_SRC=.. cargo run --release -- replay < SCRIPT
 //!     MISSINGNO_SRC=.. cargo run --release -- frame
 //!     MISSINGNO_SRC=.. cargo run --release --features port -- compare SEED COUNT [rising]
 //!
-//! Built with BRANCHES=1 the run tells at its end which conditions of the original never came out one way.
+//! KINDS are as 1-26,30. Built with BRANCHES=1 the run tells at its end which conditions of the original never came out one way.
 //!
 //! The originals name `crate::Cgb`, `crate::vram_dma` and so on, so they stand at this crate's root.
 
@@ -31,6 +33,7 @@ mod kind;
 mod layout;
 pub mod loops;
 mod memory;
+mod object_dma;
 mod random;
 pub mod replay;
 mod sample;
@@ -97,15 +100,20 @@ fn seed_and_count(words: &[String], usage: &str) -> (u64, u64) {
 /// The commands.
 pub fn command() {
     let words: Vec<String> = std::env::args().skip(1).collect();
-    let usage = "usage: oracle vectors|select SEED COUNT [KIND,KIND,..] | cases | aimed | finer SEED COUNT | stored | script SEED COUNT | sample | replay | frame | compare SEED COUNT [rising]";
+    let usage = "usage: oracle vectors|select|object_dma SEED COUNT [KINDS] | cases | aimed | finer SEED COUNT [KINDS] | stored | script SEED COUNT | sample | replay | frame | compare SEED COUNT [rising]";
     match words.first().map(String::as_str) {
         Some("vectors") => vectors::write(&words[1..], usage),
-        Some("select") => vectors::select(&words[1..], usage),
+        Some("select") => vectors::select(&words[1..], usage, false),
+        Some("object_dma") => vectors::select(&words[1..], usage, true),
         Some("cases") => cases::write(&mut std::io::stdout().lock()),
         Some("aimed") => aimed::write_all(&mut std::io::BufWriter::new(std::io::stdout().lock())),
         Some("finer") => {
             let (seed, count) = seed_and_count(&words, usage);
-            finer::select(seed, count);
+            let Some(kinds) = vectors::kinds(words.get(3)) else {
+                eprintln!("{usage}");
+                std::process::exit(2);
+            };
+            finer::select(seed, count, &kinds);
         }
         Some("stored") => vectors::stored(&mut std::io::stdin().lock()),
         Some("replay") => {

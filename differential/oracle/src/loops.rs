@@ -6,20 +6,23 @@ use missingno_gb::{Chassis, ConsoleShadow};
 use crate::Cgb;
 use crate::calls::mode;
 use crate::layout::{self, SIZE};
+use crate::object_dma::ObjectDma;
 
 /// The original with its surroundings.
 pub struct Original {
     cgb: Cgb,
     chassis: Chassis<Cgb>,
+    /// Its bytes pass through: no loop here has a call of object DMA.
+    object_dma: ObjectDma,
 }
 
 impl Original {
     pub fn new() -> Self {
-        Self { cgb: Cgb::default(), chassis: Chassis::new() }
+        Self { cgb: Cgb::default(), chassis: Chassis::new(), object_dma: ObjectDma::default() }
     }
 
     pub fn power_on(&self) -> [u8; SIZE] {
-        layout::encode(&Cgb::default(), &crate::CgbVram::default())
+        layout::encode(&Cgb::default(), &crate::CgbVram::default(), &ObjectDma::default())
     }
 
     /// From power-on FF51 to FF55 are written: 2048 bytes from C000h to 8000h, a block in each HBlank.
@@ -37,7 +40,7 @@ impl Original {
         for (address, value) in [(0xFF51, 0xC0), (0xFF52, 0), (0xFF53, 0x80), (0xFF54, 0), (0xFF55, hdma5)] {
             assert!(cgb.map_write_byte(address, value, &mut self.chassis.ppu, &mut self.chassis.vram_bus.vram));
         }
-        layout::encode(&cgb, &self.chassis.vram_bus.vram)
+        layout::encode(&cgb, &self.chassis.vram_bus.vram, &ObjectDma::default())
     }
 
     /// The slices of cartridge, WRAM, VRAM and OAM, of their lengths.
@@ -76,19 +79,19 @@ impl Original {
 
     /// A fall for each byte, its edge the byte's place; where bit 6 is set a bus call that holds the bus follows.
     pub fn falls(&mut self, bytes: &mut [u8; SIZE], steps: &[u8]) {
-        layout::decode(bytes, &mut self.cgb, &mut self.chassis.vram_bus.vram);
+        layout::decode(bytes, &mut self.cgb, &mut self.chassis.vram_bus.vram, &mut self.object_dma);
         for (i, step) in steps.iter().enumerate() {
             self.fall(*step, i as u64);
             if step >> 6 & 1 == 1 {
                 self.bus();
             }
         }
-        *bytes = layout::encode(&self.cgb, &self.chassis.vram_bus.vram);
+        *bytes = layout::encode(&self.cgb, &self.chassis.vram_bus.vram, &self.object_dma);
     }
 
     /// The same steps with bit 6 set wherever an M-cycle ends, at every fourth fall, while the engine has seized the bus.
     pub fn with_bus_calls(&mut self, start: &[u8; SIZE], modes: &[u8]) -> Vec<u8> {
-        layout::decode(start, &mut self.cgb, &mut self.chassis.vram_bus.vram);
+        layout::decode(start, &mut self.cgb, &mut self.chassis.vram_bus.vram, &mut self.object_dma);
         let mut steps = modes.to_vec();
         for (i, step) in steps.iter_mut().enumerate() {
             self.fall(*step, i as u64);

@@ -12,6 +12,11 @@ impl Random {
         z = (z ^ (z >> 27)).wrapping_mul(0x94D0_49BB_1331_11EB);
         z ^ (z >> 31)
     }
+    /// A stream of its own from where this one stands, which stays there: what joined later is drawn from it, so that a seed
+    /// gives all the rest as ever.
+    pub fn aside(&self) -> Self {
+        Self(self.0.rotate_left(32) ^ 0xD1B5_4A32_D192_ED03)
+    }
     /// A number below n.
     pub fn below(&mut self, n: u64) -> u64 {
         self.next() % n

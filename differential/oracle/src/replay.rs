@@ -1,5 +1,6 @@
 //! The replay of document 01, section 6, over the original: records of 16 bytes from standard input, a line for each to
-//! standard output. It keeps the original's own state and decodes nothing between records, as the port's program does.
+//! standard output. It keeps the original's own state and decodes nothing between records, as the port's program does. A
+//! write to FF46 goes to the second reading, which a line shows by its refusal alone.
 use std::io::{BufWriter, Read, Write};
 use std::panic::{AssertUnwindSafe, catch_unwind};
 
@@ -10,19 +11,26 @@ use crate::Cgb;
 use crate::calls::{self, Call};
 use crate::kind;
 use crate::layout;
+use crate::object_dma::ObjectDma;
 use crate::random::Random;
 use crate::vectors;
 
 struct Replay {
     cgb: Cgb,
     chassis: Chassis<Cgb>,
+    object_dma: ObjectDma,
 }
 
 /// The refusal or 0, and whether a pair came.
 type Outcome = (u8, bool);
 
 impl Replay {
+    /// FF46 is the second reading's.
     fn write(&mut self, call: &Call) -> Outcome {
+        if call.writes_ff46() {
+            let started = self.object_dma.write(call.record[4], call.edge());
+            return (if started { 0 } else { 21 }, false);
+        }
         if (0xFF68..=0xFF6C).contains(&call.address()) {
             return (4, false);
         }
@@ -53,13 +61,13 @@ impl Replay {
     /// A fall that may overflow: 14 and the state of before, or 0.
     #[cold]
     fn guarded(&mut self, mode: Mode) -> u8 {
-        let before = layout::encode(&self.cgb, &self.chassis.vram_bus.vram);
+        let before = layout::encode(&self.cgb, &self.chassis.vram_bus.vram, &self.object_dma);
         let (cgb, chassis) = (&mut self.cgb, &mut self.chassis);
         let fell = catch_unwind(AssertUnwindSafe(|| cgb.vram_dma_fall_edge(chassis, mode)));
         if fell.is_ok() {
             return 0;
         }
-        layout::decode(&before, &mut self.cgb, &mut self.chassis.vram_bus.vram);
+        layout::decode(&before, &mut self.cgb, &mut self.chassis.vram_bus.vram, &mut self.object_dma);
         14
     }
 
@@ -118,7 +126,7 @@ fn put_number(out: &mut Vec<u8>, mut n: u64) {
 pub fn run(input: &mut impl Read, output: &mut impl Write) -> std::io::Result<()> {
     const HEX: &[u8; 16] = b"0123456789ABCDEF";
     std::panic::set_hook(Box::new(|_| {}));
-    let mut replay = Replay { cgb: Cgb::default(), chassis: Chassis::new() };
+    let mut replay = Replay { cgb: Cgb::default(), chassis: Chassis::new(), object_dma: ObjectDma::default() };
     let mut buffer = vec![0u8; 65536];
     let mut out = Vec::with_capacity(65536);
     let mut number = 0u64;
@@ -158,9 +166,9 @@ pub fn script(seed: u64, count: u64, output: impl Write) -> std::io::Result<()> 
     let kinds: Vec<u8> = (kind::WRITE..=kind::BLACKOUT_DRAIN).collect();
     let mut r = Random::new(seed);
     let mut out = BufWriter::new(output);
-    let mut phase = 5;
+    let mut drive = vectors::Drive::new();
     for step in 0..count {
-        let mut call = vectors::likely(&mut r, &kinds, step, &mut phase);
+        let mut call = drive.next(&mut r, &kinds, step);
         if r.one_in(64) {
             call.record[0] = r.pick(&[0, 8, 9, 255]);
         }

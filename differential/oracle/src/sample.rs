@@ -3,6 +3,7 @@
 use std::io::Write;
 
 use crate::kind;
+use crate::object_dma::REGISTER;
 use crate::random::Random;
 use crate::vectors;
 
@@ -10,12 +11,18 @@ type Record = [u8; 16];
 
 const RECORDS: usize = 10_200;
 
-/// The bits that a kind ignores (document 01, section 6).
-fn ignored(kind: u8) -> Record {
+/// The bits that a record's kind ignores (document 01, section 6); a write to FF46 has an edge, and ignores the LCD (document 02).
+fn ignored(record: &Record) -> Record {
+    let kind = record[0];
     let mut used = [0; 16];
     used[0] = 0xFF;
     match kind {
-        kind::WRITE => used[2..6].fill(0xFF),
+        kind::WRITE => {
+            let starts = record[2..4] == REGISTER.to_le_bytes();
+            used[2..5].fill(0xFF);
+            used[5] = if starts { 0 } else { 0xFF };
+            used[8..].fill(if starts { 0xFF } else { 0 });
+        }
         kind::FALL | kind::SPEED_SWITCH => {
             used[4] = 0xFF;
             used[5] = if kind == kind::FALL { 0x0F } else { 0x03 };
@@ -38,6 +45,12 @@ fn write(address: u16, value: u8) -> Record {
     record[2..4].copy_from_slice(&address.to_le_bytes());
     record[4] = value;
     record[5] = 1;
+    record
+}
+
+fn start(page: u8, edge: u64) -> Record {
+    let mut record = write(REGISTER, page);
+    record[8..].copy_from_slice(&edge.to_le_bytes());
     record
 }
 
@@ -73,7 +86,7 @@ impl Script {
 
     fn put_junked(&mut self, records: &[Record]) {
         for record in records {
-            let mask = ignored(record[0]);
+            let mask = ignored(record);
             let junk: Record = std::array::from_fn(|k| record[k] | self.random.next() as u8 & mask[k]);
             self.records.push(junk);
         }
@@ -154,13 +167,38 @@ impl Script {
         }
     }
 
+    /// Object DMA is started, or a page above DFh refused: beside no transfer, within a block, a General transfer and a blackout.
+    /// Left and FF55 stay.
+    fn starts(&mut self) {
+        let pair = plain(kind::NEXT_PAIR);
+        for page in [0x00, 0x7F, 0x80, 0xBF, 0xC0, 0xDE, 0xDF, 0xE0, 0xE1, 0xFE, 0xFF] {
+            let edge = self.random.next();
+            self.put_junked(&[start(page, edge)]);
+        }
+        self.put_junked(&[write(0xFF45, 0xC0), write(0xFF47, 0xC0)]);
+        // Past the blind that a switch leaves.
+        self.put_junked(&[fall(3, 0); 8]);
+        self.half_a_block(0x82);
+        self.put_junked(&[start(0xC0, 100), pair, start(0xE0, 101), fall(0, 8), pair, start(0x8F, u64::MAX), pair]);
+        self.put_junked(&[
+            write(0xFF55, 0x00),
+            write(0xFF55, 0x01),
+            start(0xDF, 0),
+            fall(3, 8),
+            pair,
+            start(0xFF, 1),
+            pair,
+        ]);
+        self.put_junked(&[write(0xFF4D, 0x01), switch(4, 0), start(0x12, 2), start(0xF0, 3), blackout(u32::MAX)]);
+    }
+
     /// Calls as the other runs make them, up to the script's length.
     fn rest(&mut self) {
         let kinds: Vec<u8> = (kind::WRITE..=kind::BLACKOUT_DRAIN).collect();
-        let mut phase = 5;
+        let mut drive = vectors::Drive::new();
         while self.records.len() < RECORDS {
             let step = self.records.len() as u64;
-            let record = vectors::likely(&mut self.random, &kinds, step, &mut phase).record;
+            let record = drive.next(&mut self.random, &kinds, step).record;
             self.put(&[record]);
         }
     }
@@ -176,6 +214,7 @@ pub fn write_to(output: &mut impl Write) -> std::io::Result<()> {
     script.flags();
     script.switches();
     script.lengths();
+    script.starts();
     script.rest();
     output.write_all(&script.records.concat())?;
     output.write_all(&write(0xFF55, 0x00)[..15])

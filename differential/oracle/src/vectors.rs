@@ -1,11 +1,14 @@
 //! Vectors at random: half of them step lists of calls from power-on, half start from arbitrary states, of which a few
-//! fail refusal 7.
+//! fail refusal 7. Object DMA's part of a state and of a write is drawn aside: a seed and the kinds 1 to 26 give the other bytes
+//! as they were before there was one.
 use std::collections::HashSet;
 use std::io::{BufWriter, Read, Write};
 
-use crate::calls::{Call, Oracle};
+use crate::answer::Answer;
+use crate::calls::{Call, Oracle, Side};
 use crate::kind;
 use crate::layout::SIZE;
+use crate::object_dma;
 use crate::random::Random;
 use crate::vector::{self, Vector};
 
@@ -35,6 +38,26 @@ fn address(r: &mut Random) -> u16 {
     }
 }
 
+/// A page of object DMA: each part of the map, and its limits.
+fn page(r: &mut Random) -> u8 {
+    const LIMITS: [u8; 12] = [0x00, 0x3F, 0x40, 0x7F, 0x80, 0x9F, 0xA0, 0xBF, 0xC0, 0xCF, 0xD0, 0xDF];
+    match r.below(4) {
+        0 => r.pick(&LIMITS),
+        1 => 0x80 + r.below(0x20) as u8,
+        2 => 0xC0 + r.below(0x20) as u8,
+        _ => r.below(0xE0) as u8,
+    }
+}
+
+/// A page as it is written to FF46: one in four is above DFh.
+fn written_page(r: &mut Random) -> u8 {
+    match r.below(8) {
+        0 => 0xE0,
+        1 => 0xE0 + r.below(0x20) as u8,
+        _ => page(r),
+    }
+}
+
 /// An arbitrary call of one of the kinds; its slices are of the right lengths but for a few.
 pub fn call(r: &mut Random, kinds: &[u8]) -> Call {
     let mut c = Call::new(r.pick(kinds));
@@ -44,6 +67,17 @@ pub fn call(r: &mut Random, kinds: &[u8]) -> Call {
             c.record[2..4].copy_from_slice(&address(r).to_le_bytes());
             c.record[4] = r.byte();
             c.record[5] = if r.one_in(4) { 0 } else { r.byte() };
+            if c.record[0] == kind::WRITE {
+                let mut aside = r.aside();
+                if kinds.contains(&kind::OBJECT_DMA_M_CYCLE) && aside.one_in(6) {
+                    c.record[2..4].copy_from_slice(&object_dma::REGISTER.to_le_bytes());
+                }
+                // At FF46 the start edge, elsewhere what is not looked at.
+                c.record[8..16].copy_from_slice(&edge(&mut aside).to_le_bytes());
+                if c.writes_ff46() {
+                    c.record[4] = written_page(&mut aside);
+                }
+            }
         }
         kind::FALL => {
             c.record[4] = if r.one_in(50) { r.byte() } else { r.pick(&[0, 0, 3, 2, 1]) };
@@ -63,7 +97,16 @@ pub fn call(r: &mut Random, kinds: &[u8]) -> Call {
             let elapsed = r.next() as u32 >> r.below(32);
             c.record[8..12].copy_from_slice(&elapsed.to_le_bytes());
         }
-        kind::BUS_CALL | kind::ARBITRATION | kind::WAKE_INTAKE => {
+        kind::BUS_CALL
+        | kind::ARBITRATION
+        | kind::WAKE_INTAKE
+        | kind::ARBITRATION_FROM_INSIDE
+        | kind::BUS_CALL_FROM_INSIDE => {
+            c.record[5] = r.next() as u8;
+            c.record[8..16].copy_from_slice(&edge(r).to_le_bytes());
+        }
+        kind::OBJECT_DMA_M_CYCLE => {
+            c.record[4] = if r.one_in(20) { r.byte() } else { r.pick(&[0, 0, 1, 2]) };
             c.record[5] = r.next() as u8;
             c.record[8..16].copy_from_slice(&edge(r).to_le_bytes());
         }
@@ -76,8 +119,107 @@ pub fn call(r: &mut Random, kinds: &[u8]) -> Call {
     c
 }
 
-/// A call that drives a transfer: what a console does, with something else now and then.
-pub fn likely(r: &mut Random, kinds: &[u8], step: u64, phase: &mut u8) -> Call {
+/// What an M-cycle of object DMA has still to do, in the order arbitration, M-cycle call, bus call.
+#[derive(Clone, Copy)]
+enum Due {
+    Nothing,
+    /// With hold and suspended, and what arbitration said.
+    Cycle(u8, u8),
+    Bus(u8),
+}
+
+/// What drives a list of calls, from call to call.
+pub struct Drive {
+    /// The CPU: 0 halted, 1 halted with a latched IRQ, 2 stopped now and then; else it runs.
+    cpu: u8,
+    due: Due,
+    /// M-cycle calls that come one after the other, so that 160 are reached.
+    burst: u64,
+}
+
+fn with_flags(kind: u8, flags: u8) -> Call {
+    let mut c = Call::new(kind);
+    c.record[5] = flags;
+    c
+}
+
+fn m_cycle(said: u8) -> Call {
+    let mut c = Call::new(kind::OBJECT_DMA_M_CYCLE);
+    c.record[4] = said;
+    c
+}
+
+impl Drive {
+    pub fn new() -> Self {
+        Self { cpu: 5, due: Due::Nothing, burst: 0 }
+    }
+
+    /// A call that drives a transfer: what a console does, with something else now and then. Object DMA is driven where its
+    /// M-cycle is among the kinds.
+    pub fn next(&mut self, r: &mut Random, kinds: &[u8], step: u64) -> Call {
+        if kinds.contains(&kind::OBJECT_DMA_M_CYCLE)
+            && let Some(mut call) = self.object_dma(r, step)
+        {
+            call.record[1] = r.next() as u8;
+            return call;
+        }
+        likely(r, kinds, step, &mut self.cpu)
+    }
+
+    /// Arbitration's answer is given to the M-cycle call that follows.
+    pub fn heard(&mut self, call: &Call, answer: &Answer) {
+        let arbitrates = matches!(call.record[0], kind::ARBITRATION | kind::ARBITRATION_FROM_INSIDE);
+        if arbitrates && answer.refusal() == 0 {
+            self.due = Due::Cycle(call.record[5] & 3, answer.nth(0) as u8);
+        }
+    }
+
+    fn object_dma(&mut self, r: &mut Random, step: u64) -> Option<Call> {
+        let due = std::mem::replace(&mut self.due, Due::Nothing);
+        let outside = r.one_in(6);
+        match due {
+            _ if self.burst > 0 => {
+                self.burst -= 1;
+                return Some(m_cycle(if r.one_in(8) { r.below(3) as u8 } else { 0 }));
+            }
+            Due::Cycle(flags, said) if !r.one_in(16) => {
+                self.due = Due::Bus(flags);
+                return Some(m_cycle(said));
+            }
+            Due::Bus(flags) if !r.one_in(16) => {
+                let mut bus = with_flags(if outside { kind::BUS_CALL } else { kind::BUS_CALL_FROM_INSIDE }, flags);
+                bus.record[8..16].copy_from_slice(&(step * 2).saturating_sub(r.below(16)).to_le_bytes());
+                return Some(bus);
+            }
+            _ => {}
+        }
+        match r.below(24) {
+            0 => {
+                let mut write = Call::new(kind::WRITE);
+                write.record[2..4].copy_from_slice(&object_dma::REGISTER.to_le_bytes());
+                write.record[4] = written_page(r);
+                write.record[8..16].copy_from_slice(&(step * 2).to_le_bytes());
+                Some(write)
+            }
+            1..=3 => {
+                let flags = r.pick(&[1, 1, 1, 2, 3, 0]);
+                let transfers = (r.below(2) as u8) << 2;
+                Some(match outside {
+                    true => with_flags(kind::ARBITRATION, flags | transfers),
+                    false => with_flags(kind::ARBITRATION_FROM_INSIDE, flags),
+                })
+            }
+            4 if r.one_in(32) => {
+                self.burst = r.below(200);
+                None
+            }
+            _ => None,
+        }
+    }
+}
+
+/// A call that drives a transfer of VRAM DMA.
+fn likely(r: &mut Random, kinds: &[u8], step: u64, cpu: &mut u8) -> Call {
     if r.one_in(4) {
         return call(r, kinds);
     }
@@ -113,10 +255,10 @@ pub fn likely(r: &mut Random, kinds: &[u8], step: u64, phase: &mut u8) -> Call {
         }
         kind::FALL => {
             if r.one_in(6) {
-                *phase = r.below(6) as u8;
+                *cpu = r.below(6) as u8;
             }
             c.record[4] = if r.one_in(3) { 3 } else { 0 };
-            c.record[5] = match *phase {
+            c.record[5] = match *cpu {
                 0 => 1,
                 1 => 3,
                 2 if r.one_in(8) => 4,
@@ -142,9 +284,30 @@ fn small(r: &mut Random, limit: u64) -> u8 {
     if r.one_in(8) { r.byte() } else { r.below(limit + 1) as u8 }
 }
 
-/// An arbitrary state: every field anything of its type, refusal 7's six tests passed but once in 40.
-pub fn state(r: &mut Random) -> [u8; SIZE] {
+/// Object DMA's part of an arbitrary state, as at power-on in a third of them. Its two tests of refusal 7 fail once in 40, where
+/// they may.
+fn put_object_dma(r: &mut Random, s: &mut [u8; SIZE], may_fail: bool) {
+    if r.one_in(3) {
+        return;
+    }
+    s[91] = !r.one_in(3) as u8;
+    s[92] = page(r);
+    s[93] = if r.flag() { r.pick(&[0, 1, 158, 159, 159, 160]) } else { r.below(161) as u8 };
+    s[94..102].copy_from_slice(&edge(r).to_le_bytes());
+    if may_fail && r.one_in(40) {
+        if r.flag() {
+            s[92] = 0xE0 + r.below(0x20) as u8;
+        } else {
+            s[93] = 161 + r.below(95) as u8;
+        }
+    }
+}
+
+/// An arbitrary state for a call of these kinds: every field anything of its type, document 01's six tests of refusal 7 passed but
+/// once in 40.
+pub fn state(r: &mut Random, kinds: &[u8]) -> [u8; SIZE] {
     let mut s = [0u8; SIZE];
+    put_object_dma(&mut r.aside(), &mut s, kinds.contains(&kind::OBJECT_DMA_M_CYCLE));
     let put = |s: &mut [u8; SIZE], at: usize, bytes: &[u8]| s[at..at + bytes.len()].copy_from_slice(bytes);
     let near = |r: &mut Random| if r.one_in(3) { 0xFFFF - r.below(20) as u16 } else { r.next() as u16 };
     let source = near(r);
@@ -233,12 +396,13 @@ fn generate(seed: u64, count: u64, kinds: &[u8], mut take: impl FnMut(&Vector) -
     while given < count {
         let listed = r.flag();
         let mut now = oracle.power_on(r.one_in(16));
-        let mut phase = 5;
+        let mut drive = Drive::new();
         for step in 0..if listed { 64 + r.below(192) } else { 128 } {
             // A list of calls goes on from power-on; else each call has a state of its own.
-            let c = if listed { likely(&mut r, kinds, step, &mut phase) } else { call(&mut r, kinds) };
-            let before = if listed { now } else { state(&mut r) };
+            let c = if listed { drive.next(&mut r, kinds, step) } else { call(&mut r, kinds) };
+            let before = if listed { now } else { state(&mut r, kinds) };
             let vector = Vector::of(&mut oracle, c, before);
+            drive.heard(&vector.call, &vector.answer);
             now = vector.after;
             given += 1;
             if !take(&vector) || given == count {
@@ -246,6 +410,18 @@ fn generate(seed: u64, count: u64, kinds: &[u8], mut take: impl FnMut(&Vector) -
             }
         }
     }
+}
+
+/// The kinds that a word lists, as 1-26,30; all where there is none.
+pub fn kinds(word: Option<&String>) -> Option<Vec<u8>> {
+    let Some(word) = word else { return Some((1..=kind::LAST).collect()) };
+    let mut kinds = Vec::new();
+    for part in word.split(',') {
+        let (first, last) = part.split_once('-').unwrap_or((part, part));
+        kinds.extend(first.parse::<u8>().ok()?..=last.parse::<u8>().ok()?);
+    }
+    let calls = |kind: &u8| (1..=kind::LAST).contains(kind);
+    (!kinds.is_empty() && kinds.iter().all(calls)).then_some(kinds)
 }
 
 struct Words {
@@ -256,9 +432,7 @@ struct Words {
 
 fn words(words: &[String], usage: &str) -> Words {
     let parsed = |k: usize| words.get(k).and_then(|w| w.parse::<u64>().ok());
-    let listed = |list: &String| list.split(',').map(|w| w.parse().ok()).collect::<Option<Vec<u8>>>();
-    let kinds = words.get(2).map_or(Some((1..=kind::LAST).collect()), listed);
-    match (parsed(0), parsed(1), kinds) {
+    match (parsed(0), parsed(1), kinds(words.get(2))) {
         (Some(seed), Some(count), Some(kinds)) => Words { seed, count, kinds },
         _ => {
             eprintln!("{usage}");
@@ -288,8 +462,10 @@ fn source_part(source: u16) -> u8 {
 
 /// The phase of a contended call that moves something, and 4 of others.
 fn phase(v: &Vector) -> u8 {
-    let start = u64::from_le_bytes(v.before[10..18].try_into().unwrap());
-    let apart = start.wrapping_sub(v.call.edge()).wrapping_sub(2);
+    let edge_at = |at: usize| u64::from_le_bytes(v.before[at..at + 8].try_into().unwrap());
+    let inside = v.call.record[0] == kind::BUS_CALL_FROM_INSIDE;
+    let object_dma = if inside { edge_at(94) } else { v.call.edge() };
+    let apart = edge_at(10).wrapping_sub(object_dma).wrapping_sub(2);
     if v.before[40] == 1 && v.answer.nth(0) > 0 { (apart / 2 % 4) as u8 } else { 4 }
 }
 
@@ -298,7 +474,34 @@ fn phase(v: &Vector) -> u8 {
 /// with its deposit are selected.
 fn bus_sort(v: &Vector) -> Option<([u32; 4], u16, [u8; 4], u8, u8)> {
     let own = (v.call.lengths, v.answer.nth(1), v.changed(), source_part(v.answer.pair(0).0), phase(v));
-    (v.call.record[0] == kind::BUS_CALL).then_some(own)
+    matches!(v.call.record[0], kind::BUS_CALL | kind::BUS_CALL_FROM_INSIDE).then_some(own)
+}
+
+/// What tells a call of object DMA apart besides. Of an M-cycle: what it was told, the slices' lengths, the part of the map that
+/// its page is in, with the bank there, and whether it is the last one, the one behind it or another. Of a write to FF46: the
+/// page's part, the length of WRAM's slice, compat. Of arbitration from inside: what it hears of object DMA, now and last.
+fn object_dma_sort(v: &Vector) -> Option<[u32; 6]> {
+    let (record, before) = (&v.call.record, &v.before);
+    let part = |page: u8| source_part((page as u16) << 8) as u32;
+    let whole = (v.call.lengths == Call::new(kind::WRITE).lengths) as u32;
+    let running = before[91] as u32;
+    let place = before[93].clamp(158, 161) as u32;
+    match record[0] {
+        kind::OBJECT_DMA_M_CYCLE => {
+            let bank = match part(before[92]) {
+                1 => before[80],
+                4 => before[41].min(2),
+                _ => 0,
+            };
+            Some([record[4].min(3) as u32, whole, part(before[92]), bank as u32, place, running])
+        }
+        kind::WRITE if v.call.writes_ff46() => {
+            Some([part(record[4]), v.call.lengths[1], before[44] as u32, running, 0, 0])
+        }
+        kind::ARBITRATION_FROM_INSIDE => Some([running, place, before[39] as u32, before[43] as u32, 0, 0]),
+        kind::OBJECT_DMA => Some([running, place, 0, 0, 0, 0]),
+        _ => None,
+    }
 }
 
 /// What an answer says first; a tally says three numbers of the state, and then whether an escape is owed.
@@ -306,32 +509,41 @@ fn says(v: &Vector) -> u8 {
     v.answer.nth(if v.call.record[0] == kind::TALLY { 3 } else { 0 }) as u8
 }
 
-/// The first vector of each sort among `count`: kind, refusal, answer, and which bytes of the state changed.
-pub fn select(given: &[String], usage: &str) {
+/// The first vector of each sort among `count`: kind, refusal, answer, and which bytes of the state changed. `object_dma`: of those
+/// alone that the second reading answers or has a part in.
+pub fn select(given: &[String], usage: &str, object_dma: bool) {
     let w = words(given, usage);
     let mut out = BufWriter::new(std::io::stdout().lock());
     let mut seen = HashSet::new();
     generate(w.seed, w.count, &w.kinds, |v| {
-        let sort = (v.call.record[0], v.answer.refusal(), says(v), bus_sort(v), v.touched());
+        if object_dma && v.call.side() == Side::Original {
+            return true;
+        }
+        let sort = (v.call.record[0], v.answer.refusal(), says(v), bus_sort(v), object_dma_sort(v), v.touched());
         !seen.insert(sort) || out.write_all(&v.bytes()).is_ok()
     });
     out.flush().unwrap();
     eprintln!("{} of {} vectors selected", seen.len(), w.count);
 }
 
-/// Stored vectors, given to the original again: a file that only the oracle wrote has none that differs, and has every kind.
+/// Stored vectors, given to the original and to the second reading again: a file that only the oracle wrote has none that differs,
+/// and has every kind.
 pub fn stored(input: &mut dyn Read) {
     let mut oracle = Oracle::new();
-    let (mut count, mut differ) = (0u64, 0u64);
+    let (mut count, mut second, mut joined, mut differ) = (0u64, 0u64, 0u64, 0u64);
     let mut kinds = HashSet::new();
     let mut bytes = [0u8; vector::BYTES];
     while input.read_exact(&mut bytes).is_ok() {
+        let vector = Vector::again(&mut oracle, &bytes);
         count += 1;
-        differ += (Vector::again(&mut oracle, &bytes).bytes() != bytes) as u64;
+        second += (vector.call.side() == Side::SecondReading) as u64;
+        joined += (vector.call.side() == Side::Joined) as u64;
+        differ += (vector.bytes() != bytes) as u64;
         kinds.insert(bytes[0]);
     }
     let missing: Vec<u8> = (0..=kind::LAST).filter(|k| !kinds.contains(k)).collect();
-    println!("{count} stored vectors, {differ} differ from the original");
+    println!("{count} stored vectors, {differ} differ from the oracle's");
+    println!("of them the second reading's alone {second}, the original's with an input from it {joined}");
     if !missing.is_empty() {
         println!("no stored vector of kind {missing:?}");
     }
