@@ -1,8 +1,10 @@
 // The public calls with the inputs that the cases leave alone, and what they answer behind a label.
 use crate::say;
+use answers::Arbitrated;
 use answers::Fell;
 use answers::Handed;
 use bus::arbitration::ArbitrationInput;
+use bus::hold::HoldInput;
 use console::Cgb;
 use fall_edge::FallInput;
 use map_write::WriteInput;
@@ -21,6 +23,7 @@ pub fn set(state: Cgb, address: u16, value: u8) -> Cgb {
         WriteInput {
             value: value,
             lcd_on: true,
+            oam_start_edge: 0,
         },
     )
 }
@@ -32,6 +35,20 @@ pub fn set_in_the_dark(state: Cgb, address: u16, value: u8) -> Cgb {
         WriteInput {
             value: value,
             lcd_on: false,
+            oam_start_edge: 0,
+        },
+    )
+}
+
+// Object DMA from this page on, started at this edge.
+pub fn start_object_dma(state: Cgb, page: u8, start_edge: u64) -> Cgb {
+    write(
+        state,
+        0xFF46,
+        WriteInput {
+            value: page,
+            lcd_on: true,
+            oam_start_edge: start_edge,
         },
     )
 }
@@ -42,6 +59,7 @@ pub fn written(state: Cgb, address: u16, value: u8) -> Cgb {
     let input = WriteInput {
         value: value,
         lcd_on: true,
+        oam_start_edge: 0,
     };
     let w = engine::write(state, &mut wram, address, input);
     let answer = w.answer;
@@ -91,6 +109,12 @@ pub fn fallen_at(state: Cgb, mode: u8, master_edge: u64) -> Cgb {
     engine::vram_dma_fall_edge(state, input).state
 }
 
+fn arbitrated(a: Arbitrated) -> Cgb {
+    let answer = a.answer;
+    say::arbitrated(answer);
+    a.state
+}
+
 // Arbitration of a held bus while OAM DMA drives a byte.
 pub fn arbitrate(state: Cgb) -> Cgb {
     let input = ArbitrationInput {
@@ -98,10 +122,16 @@ pub fn arbitrate(state: Cgb) -> Cgb {
         suspended: false,
         oam_transferring: true,
     };
-    let arbitrated = engine::vram_dma_arbitrate_oam(state, input);
-    let answer = arbitrated.answer;
-    say::arbitrated(answer);
-    arbitrated.state
+    arbitrated(engine::vram_dma_arbitrate_oam(state, input))
+}
+
+// Arbitration with object DMA as the state has it.
+pub fn arbitrate_inside(state: Cgb, hold: bool) -> Cgb {
+    let input = HoldInput {
+        hold: hold,
+        suspended: false,
+    };
+    arbitrated(engine::vram_dma_arbitrate_inside(state, input))
 }
 
 fn handed(h: Handed) -> Cgb {

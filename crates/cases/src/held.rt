@@ -4,6 +4,7 @@ use crate::say;
 use answers::BusAnswer;
 use answers::BusOutcome;
 use bus::commit::BusInput;
+use bus::hold::HoldInput;
 use console::Cgb;
 use transfer::pair::BytePair;
 
@@ -56,4 +57,27 @@ pub fn alone(state: Cgb) -> Cgb {
     let mut vram = [0u8; 16384];
     let mut oam = [0u8; 160];
     beside(state, 0, &cartridge, &mut vram, &mut oam)
+}
+
+// Likewise, with object DMA's start edge as the state has it; behind the pairs the first places of OAM.
+pub fn inside(state: Cgb) -> Cgb {
+    let cartridge = lent::cartridge();
+    let wram = [0u8; 32768];
+    let mut vram = [0u8; 16384];
+    let mut oam = [0u8; 160];
+    let input = HoldInput {
+        hold: true,
+        suspended: false,
+    };
+    let b = engine::vram_dma_commit_bytes_inside(
+        state,
+        input,
+        &cartridge,
+        &wram,
+        &mut vram,
+        &mut oam,
+    );
+    let after = tell(b);
+    say::row(b"OAM from FE00:", &oam, 6);
+    after
 }

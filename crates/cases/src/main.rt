@@ -1,5 +1,5 @@
-// Runs document 01's cases and declined inputs through the public calls, a line for each observation. What the lines must
-// say stands in the file stdout, written from the paper's numbers and rules.
+// Runs document 01's cases and declined inputs, and document 02's object DMA, through the public calls, a line for each observation.
+// What the lines must say stands in the file stdout, written from the papers' numbers and rules.
 mod blackouts;
 mod calls;
 mod cuts;
@@ -12,6 +12,7 @@ mod held;
 mod lengths;
 mod lent;
 mod map;
+mod object;
 mod pairs;
 mod say;
 
@@ -35,4 +36,5 @@ fn main() {
     declined::modes();
     declined::switches();
     lengths::each();
+    object::object_dma();
 }

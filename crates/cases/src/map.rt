@@ -9,6 +9,7 @@ fn set(state: Cgb, wram: &mut [u8; 32768], address: u16, value: u8) -> Cgb {
     let input = WriteInput {
         value: value,
         lcd_on: true,
+        oam_start_edge: 0,
     };
     engine::write(state, wram, address, input).state
 }
@@ -18,6 +19,7 @@ fn wrote(state: Cgb, wram: &mut [u8], address: u16, value: u8) -> Cgb {
     let input = WriteInput {
         value: value,
         lcd_on: true,
+        oam_start_edge: 0,
     };
     let w = engine::write(state, wram, address, input);
     let answer = w.answer;

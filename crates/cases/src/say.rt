@@ -4,8 +4,10 @@ use answers::ArbitrationAnswer;
 use answers::BusAnswer;
 use answers::ByteAnswer;
 use answers::ClaimAnswer;
+use answers::CycleAnswer;
 use answers::DoneAnswer;
 use answers::FlagAnswer;
+use answers::ObjectDmaAnswer;
 use answers::PairAnswer;
 use answers::SwitchAnswer;
 use answers::TallyAnswer;
@@ -218,5 +220,49 @@ pub fn tally(answer: TallyAnswer) {
             end(escape_byte, b" escape");
         }
         TallyAnswer::Refused(n) => refused(n),
+    }
+}
+
+// What became of object DMA's next byte: its source, and itself where it moved.
+pub fn cycled(answer: CycleAnswer, byte: u8) {
+    match answer {
+        CycleAnswer::Nothing => text(b"nothing\n"),
+        CycleAnswer::Moved(source) => {
+            four_digits(source);
+            text(b", byte ");
+            two_digits(byte);
+            text(b"\n");
+        }
+        CycleAnswer::PassedOver(source) => {
+            four_digits(source);
+            text(b" passed over\n");
+        }
+        CycleAnswer::Refused(n) => refused(n),
+    }
+}
+
+fn runs_or_rests(runs: bool) {
+    if runs {
+        text(b"runs");
+    } else {
+        text(b"at rest");
+    }
+}
+
+pub fn object_dma(answer: ObjectDmaAnswer) {
+    match answer {
+        ObjectDmaAnswer::ObjectDma {
+            runs,
+            counted,
+            page,
+        } => {
+            runs_or_rests(runs);
+            text(b", counted ");
+            decimal(counted as u64);
+            text(b", page ");
+            two_digits(page);
+            text(b"\n");
+        }
+        ObjectDmaAnswer::Refused(n) => refused(n),
     }
 }
