@@ -1,4 +1,4 @@
-/* The VRAM DMA engine and the speed switch of the Game Boy Color: a proved model, as a static library for x86-64.
+/* VRAM DMA, object DMA and the speed switch of the Game Boy Color: a proved model, as a static library for x86-64.
  *
  *     sh tools/library          (proves it and writes target/lib/libcgb_vram_dma.a)
  *     cc -Iinclude PROGRAM.c target/lib/libcgb_vram_dma.a
@@ -14,10 +14,12 @@
 #include <stddef.h>
 #include <stdint.h>
 
-/* 10000 times the first number, 100 times the second, and the third. The first grows where a program that uses this header must be
- * changed; the second with each landing (docs/LANDINGS.md: base 8 is 1.8); the third with a correction between two. */
-#define CGB_VRAM_DMA_VERSION 10800
-#define CGB_VRAM_DMA_VERSION_TEXT "1.8.0"
+/* 10000 times the first number, 100 times the second, and the third. The first grows where a name goes, or where a signature or a
+ * layout becomes another; until then a program that compiled still compiles and links, and its states are still taken. The second
+ * grows with each landing (docs/LANDINGS.md: base 8 is 1.8, A1 is 1.9), which adds names, and may accept what was refused:
+ * docs/LIBRARY.md says what to look at. The third grows with a correction between two. */
+#define CGB_VRAM_DMA_VERSION 10900
+#define CGB_VRAM_DMA_VERSION_TEXT "1.9.0"
 
 #ifdef __cplusplus
 extern "C" {
@@ -30,7 +32,8 @@ extern "C" {
 #define CGB_CALL_BYTES 16
 #define CGB_ANSWER_BYTES 24
 
-/* The lengths of lent memory. A bus call wants all four, the calls read and write WRAM's alone; another length gets 2. */
+/* The lengths of lent memory. A bus call, from inside too, and an object DMA M-cycle want all four, the calls read and write WRAM's
+ * alone; another length gets 2. */
 #define CGB_CARTRIDGE_BYTES 40960 /* addresses below 8000h, then A000h to BFFFh from 8000h on */
 #define CGB_WRAM_BYTES 32768      /* eight banks of 4096 */
 #define CGB_VRAM_BYTES 16384      /* two banks of 8192 */
@@ -56,9 +59,9 @@ uint8_t cgb_perform(uint8_t state[CGB_STATE_BYTES], const uint8_t call[CGB_CALL_
 enum {
     CGB_CALL_KIND = 0,
     CGB_CALL_ADDRESS = 2, /* two bytes */
-    CGB_CALL_VALUE = 4,   /* a write's value, a fall's mode, a switch's dot phase */
+    CGB_CALL_VALUE = 4,   /* a write's value, a fall's mode, a switch's dot phase, arbitration's answer for an object DMA M-cycle */
     CGB_CALL_FLAGS = 5,
-    CGB_CALL_EDGE = 8     /* eight bytes; a blackout drain's elapsed edges are the first four */
+    CGB_CALL_EDGE = 8     /* eight bytes; a write's is read at FF46 alone; a blackout drain's elapsed edges are the first four */
 };
 
 /* Bits of byte 5, each group for the calls named above it. A write has "LCD on if not 0" there. */
@@ -68,13 +71,13 @@ enum {
     CGB_IRQ_LATCHED = 2,
     CGB_STOPPED = 4,
     CGB_OAM_OWNS_BUS = 8,
-    /* speed switch, bus call, arbitration */
+    /* speed switch; bus call and arbitration, from inside too */
     CGB_HOLD = 1,
     /* speed switch */
     CGB_INTERRUPT_READY = 2,
-    /* bus call, arbitration */
+    /* bus call and arbitration, from inside too */
     CGB_SUSPENDED = 2,
-    /* arbitration */
+    /* arbitration; from inside the state says it */
     CGB_OAM_TRANSFERS = 4,
     /* wake intake */
     CGB_BOUNDARY = 1
@@ -111,48 +114,61 @@ enum {
     CGB_KIND_CPU_STEPS_PER_DOT = 24,
     CGB_KIND_WRAM_BANK = 25,
     CGB_KIND_SVBK_REGISTER = 26,
-    CGB_KIND_LAST = 26
+    CGB_KIND_OBJECT_DMA_M_CYCLE = 27,
+    CGB_KIND_ARBITRATION_FROM_INSIDE = 28,
+    CGB_KIND_BUS_CALL_FROM_INSIDE = 29,
+    CGB_KIND_OBJECT_DMA = 30,
+    CGB_KIND_LAST = 30
     /* calls.txt: end */
 };
 
 /* The bytes of each kind, and behind -> the values of its answer; other bytes and bits are ignored.
  * (calls.txt: begin table; written by tools/calls)
- *   1 write                  2-3 address, 4 value, 5 LCD on if not 0
- *                            -> none
- *   2 fall                   4 mode 0-3 (0 is HBlank); 5 bits 0-3 halted, IRQ latched, stopped, OAM DMA owns a bus;
- *                            8-15 master edge
- *                            -> committed, standing
- *   3 next pair              -> 1, source, destination; or 0 for none
- *   4 speed switch           4 dot phase 0-3, or 4 for none; 5 bits 0-1 hold, interrupt ready; 8-15 master edge
- *                            -> 0 none, 1 discarded, 2 cut
- *   5 LCD off                -> none
- *   6 escape drain           -> 1, source, destination; or 0 for none
- *   7 blackout drain         8-11 elapsed edges
- *                            -> a flag
- *   8 read                   2-3 address
- *                            -> a byte
- *   9 bus call               5 bits 0-1 hold, suspended; 8-15 OAM DMA's start edge
- *                            -> how many pairs, set-up cell used
- *  10 arbitration            5 bits 0-2 hold, suspended, OAM DMA transfers
- *                            -> 0 clear, 1 contended, 2 stall
- *  11 write conflict         2-3 address: does a CPU read of it meet the byte that the engine is writing there?
- *                            -> 1, the source of the byte that the read meets; or 0 for none
- *  12 wake intake            5 bit 0 M-cycle boundary
- *                            -> a flag
- *  13 instruction retired    -> none
- *  14 tally                  -> source, destination register, left, escape owed
- *  15 status                 -> 0 Idle; 1 General, left; 2 HBlank, left, source, where the next byte lands
- *  16 claim                  -> committed, standing
- *  17 park waits for fetch   -> a flag
- *  18 request standing       -> a flag
- *  19 holds CPU              -> a flag
- *  20 seizes bus             -> a flag
- *  21 switch in progress     -> a flag
- *  22 divider active         -> a flag
- *  23 double speed           -> a flag
- *  24 CPU steps per dot      -> a byte
- *  25 WRAM bank              -> a byte
- *  26 SVBK register          -> a byte
+ *   1 write                    2-3 address, 4 value, 5 LCD on if not 0, 8-15 the master edge at which object DMA
+ *                              starts (read at FF46 alone)
+ *                              -> none
+ *   2 fall                     4 mode 0-3 (0 is HBlank); 5 bits 0-3 halted, IRQ latched, stopped, OAM DMA owns a bus;
+ *                              8-15 master edge
+ *                              -> committed, standing
+ *   3 next pair                -> 1, source, destination; or 0 for none
+ *   4 speed switch             4 dot phase 0-3, or 4 for none; 5 bits 0-1 hold, interrupt ready; 8-15 master edge
+ *                              -> 0 none, 1 discarded, 2 cut
+ *   5 LCD off                  -> none
+ *   6 escape drain             -> 1, source, destination; or 0 for none
+ *   7 blackout drain           8-11 elapsed edges
+ *                              -> a flag
+ *   8 read                     2-3 address
+ *                              -> a byte
+ *   9 bus call                 5 bits 0-1 hold, suspended; 8-15 OAM DMA's start edge
+ *                              -> how many pairs, set-up cell used
+ *  10 arbitration              5 bits 0-2 hold, suspended, OAM DMA transfers
+ *                              -> 0 clear, 1 contended, 2 stall
+ *  11 write conflict           2-3 address: does a CPU read of it meet the byte that the engine is writing there?
+ *                              -> 1, the source of the byte that the read meets; or 0 for none
+ *  12 wake intake              5 bit 0 M-cycle boundary
+ *                              -> a flag
+ *  13 instruction retired      -> none
+ *  14 tally                    -> source, destination register, left, escape owed
+ *  15 status                   -> 0 Idle; 1 General, left; 2 HBlank, left, source, where the next byte lands
+ *  16 claim                    -> committed, standing
+ *  17 park waits for fetch     -> a flag
+ *  18 request standing         -> a flag
+ *  19 holds CPU                -> a flag
+ *  20 seizes bus               -> a flag
+ *  21 switch in progress       -> a flag
+ *  22 divider active           -> a flag
+ *  23 double speed             -> a flag
+ *  24 CPU steps per dot        -> a byte
+ *  25 WRAM bank                -> a byte
+ *  26 SVBK register            -> a byte
+ *  27 object DMA M-cycle       4 arbitration's answer: 0 clear, 1 contended, 2 stall; above 2 the record is no call's
+ *                              -> 0 nothing; 1 moved, its source; 2 passed over, its source; the byte that moved as a
+ *                              bus call's first
+ *  28 arbitration from inside  5 bits 0-1 hold, suspended
+ *                              -> 0 clear, 1 contended, 2 stall
+ *  29 bus call from inside     5 bits 0-1 hold, suspended
+ *                              -> how many pairs, set-up cell used
+ *  30 object DMA               -> runs, bytes counted, page
  * (calls.txt: end)
  */
 
@@ -162,7 +178,7 @@ enum {
     CGB_ANSWER_REFUSAL = 0,
     CGB_ANSWER_VALUES = 2,      /* four of two bytes */
     CGB_ANSWER_PAIRS = 10,      /* a bus call's: source and destination of two bytes each, of the first pair, then of the second */
-    CGB_ANSWER_PAIR_BYTES = 18  /* a bus call's: the byte of each pair */
+    CGB_ANSWER_PAIR_BYTES = 18  /* a bus call's: the byte of each pair; an object DMA M-cycle's: the byte that it moved */
 };
 
 /* A refused call's number. */
@@ -179,7 +195,8 @@ enum {
     CGB_REFUSED_BLACKOUT   = 11, /* a switch while the blackout runs */
     CGB_REFUSED_UNARMED    = 12, /* a switch while KEY1 is not armed */
     CGB_REFUSED_DEFERRED   = 13, /* a switch downward with a ready block */
-    CGB_REFUSED_GRANTED    = 14  /* a commit not already counted would raise granted from 255 */
+    CGB_REFUSED_GRANTED    = 14, /* a commit not already counted would raise granted from 255 */
+    CGB_REFUSED_PAGE       = 21  /* the page is above DFh */
     /* calls.txt: end */
 };
 
@@ -199,6 +216,7 @@ static inline const char *cgb_refusal_text(uint8_t refusal)
     case CGB_REFUSED_UNARMED: return "a switch while KEY1 is not armed";
     case CGB_REFUSED_DEFERRED: return "a switch downward with a ready block";
     case CGB_REFUSED_GRANTED: return "a commit not already counted would raise granted from 255";
+    case CGB_REFUSED_PAGE: return "the page is above DFh";
     /* calls.txt: end */
     default: return "no refusal of this library";
     }
@@ -215,6 +233,13 @@ enum {
     /* write conflict: whether the read meets a byte, and its source */
     CGB_CONFLICT_MET = 0,
     CGB_CONFLICT_SOURCE = 1,
+    /* object DMA M-cycle: CGB_CYCLE_NOTHING, _MOVED or _PASSED_OVER, and the address of the byte moved or passed over */
+    CGB_CYCLE_OUTCOME = 0,
+    CGB_CYCLE_SOURCE = 1,
+    /* object DMA: whether it runs; bytes counted since the last accepted write to FF46, those passed over too; its page */
+    CGB_OBJECT_DMA_RUNS = 0,
+    CGB_OBJECT_DMA_COUNTED = 1,
+    CGB_OBJECT_DMA_PAGE = 2,
     /* tally: the destination is the register, with all its 16 bits */
     CGB_TALLY_SOURCE = 0,
     CGB_TALLY_DESTINATION = 1,
@@ -227,10 +252,11 @@ enum {
     CGB_STATUS_DESTINATION = 3
 };
 
-/* What a value says: a status, and the state's mode; a speed switch; an arbitration. */
+/* What a value says: a status, and the state's mode; a speed switch; an arbitration; an object DMA M-cycle. */
 enum { CGB_TRANSFER_IDLE = 0, CGB_TRANSFER_GENERAL = 1, CGB_TRANSFER_HBLANK = 2 };
 enum { CGB_SWITCH_NONE = 0, CGB_SWITCH_DISCARDED = 1, CGB_SWITCH_CUT = 2 };
 enum { CGB_ARBITRATION_CLEAR = 0, CGB_ARBITRATION_CONTENDED = 1, CGB_ARBITRATION_STALL = 2 };
+enum { CGB_CYCLE_NOTHING = 0, CGB_CYCLE_MOVED = 1, CGB_CYCLE_PASSED_OVER = 2 };
 
 /* A number of that many bytes, of any record here. */
 static inline uint64_t cgb_number(const uint8_t *bytes, size_t at, size_t size)
@@ -259,6 +285,12 @@ static inline uint16_t cgb_pair_destination(const uint8_t answer[CGB_ANSWER_BYTE
 static inline uint8_t cgb_pair_byte(const uint8_t answer[CGB_ANSWER_BYTES], size_t k)
 {
     return answer[CGB_ANSWER_PAIR_BYTES + k];
+}
+
+/* The byte that an object DMA M-cycle moved; 0 where it moved none. */
+static inline uint8_t cgb_cycle_byte(const uint8_t answer[CGB_ANSWER_BYTES])
+{
+    return answer[CGB_ANSWER_PAIR_BYTES];
 }
 
 /* Of a next pair or an escape drain: whether it hands out a pair, and that pair; no byte is moved. */
@@ -327,13 +359,17 @@ enum {
     CGB_AT_BLACKOUT_ANCHOR = 81, /* 8 bytes */
     CGB_AT_VRAM_DMA_CLAIM_COMMITTED = 89,
     CGB_AT_VRAM_DMA_CLAIM_STANDING = 90,
-    CGB_AT_SPARE = 91 /* zeros, to the end */
+    CGB_AT_OBJECT_DMA_RUNNING = 91,
+    CGB_AT_OBJECT_DMA_PAGE = 92,
+    CGB_AT_OBJECT_DMA_COUNTED = 93,
+    CGB_AT_OBJECT_DMA_START_EDGE = 94, /* 8 bytes */
+    CGB_AT_SPARE = 102 /* zeros, to the end */
     /* crates/codec/specs: end */
 };
 
 /* ---- The calls: each gives the refusal, or 0 (CGB_ACCEPTED); the values are in the answer ---- */
 
-/* What a bus call is lent. */
+/* What a bus call and an object DMA M-cycle are lent. */
 struct cgb_memory {
     const uint8_t *cartridge;
     size_t cartridge_bytes;
@@ -370,6 +406,16 @@ static inline uint8_t cgb_with_wram(uint8_t state[CGB_STATE_BYTES], uint8_t answ
     return cgb_perform(state, call, answer, NULL, 0, wram, wram_bytes, NULL, 0, NULL, 0);
 }
 
+/* A call that is lent all four slices. */
+static inline uint8_t cgb_with_memory(uint8_t state[CGB_STATE_BYTES], uint8_t answer[CGB_ANSWER_BYTES], uint8_t kind,
+                                      uint8_t value, uint8_t flags, uint64_t edge, const struct cgb_memory *memory)
+{
+    uint8_t call[CGB_CALL_BYTES];
+    cgb_record(call, kind, 0, value, flags, edge);
+    return cgb_perform(state, call, answer, memory->cartridge, memory->cartridge_bytes, memory->wram, memory->wram_bytes,
+                       memory->vram, memory->vram_bytes, memory->oam, memory->oam_bytes);
+}
+
 /* A call that is lent nothing. */
 static inline uint8_t cgb_alone(uint8_t state[CGB_STATE_BYTES], uint8_t answer[CGB_ANSWER_BYTES], uint8_t kind,
                                 uint16_t address, uint8_t value, uint8_t flags, uint64_t edge)
@@ -379,14 +425,25 @@ static inline uint8_t cgb_alone(uint8_t state[CGB_STATE_BYTES], uint8_t answer[C
     return cgb_perform(state, call, answer, NULL, 0, NULL, 0, NULL, 0, NULL, 0);
 }
 
-/* A CPU write to a register or to WRAM; the LCD is on if lcd_on is not 0. */
+/* A CPU write to a register or to WRAM; the LCD is on if lcd_on is not 0. At FF46 its start edge is 0: cgb_start_object_dma
+ * takes another. */
 static inline uint8_t cgb_write(uint8_t state[CGB_STATE_BYTES], uint8_t answer[CGB_ANSWER_BYTES], uint16_t address, uint8_t value,
                                 uint8_t lcd_on, uint8_t *wram, size_t wram_bytes)
 {
     return cgb_with_wram(state, answer, CGB_KIND_WRITE, address, value, lcd_on, wram, wram_bytes);
 }
 
-/* A CPU read; the byte is value 0. WRAM is left as it is. */
+/* A CPU write of the page to FF46: object DMA starts, or starts over, with page * 256 as its first address. The start edge is the
+ * master edge at which it starts: a bus call from inside looks at it. A page above DFh gets 21, and what runs goes on. */
+static inline uint8_t cgb_start_object_dma(uint8_t state[CGB_STATE_BYTES], uint8_t answer[CGB_ANSWER_BYTES], uint8_t page,
+                                           uint64_t start_edge, uint8_t *wram, size_t wram_bytes)
+{
+    uint8_t call[CGB_CALL_BYTES];
+    cgb_record(call, CGB_KIND_WRITE, 0xFF46, page, 0, start_edge);
+    return cgb_perform(state, call, answer, NULL, 0, wram, wram_bytes, NULL, 0, NULL, 0);
+}
+
+/* A CPU read; the byte is value 0. WRAM is left as it is. A read of FF46 gets 4. */
 static inline uint8_t cgb_read(uint8_t state[CGB_STATE_BYTES], uint8_t answer[CGB_ANSWER_BYTES], uint16_t address, uint8_t *wram,
                                size_t wram_bytes)
 {
@@ -404,16 +461,35 @@ static inline uint8_t cgb_fall(uint8_t state[CGB_STATE_BYTES], uint8_t answer[CG
 static inline uint8_t cgb_bus_call(uint8_t state[CGB_STATE_BYTES], uint8_t answer[CGB_ANSWER_BYTES], uint8_t flags,
                                    uint64_t oam_edge, const struct cgb_memory *memory)
 {
-    uint8_t call[CGB_CALL_BYTES];
-    cgb_record(call, CGB_KIND_BUS_CALL, 0, 0, flags, oam_edge);
-    return cgb_perform(state, call, answer, memory->cartridge, memory->cartridge_bytes, memory->wram, memory->wram_bytes,
-                       memory->vram, memory->vram_bytes, memory->oam, memory->oam_bytes);
+    return cgb_with_memory(state, answer, CGB_KIND_BUS_CALL, 0, flags, oam_edge, memory);
+}
+
+/* The bus call with the start edge of the last accepted write to FF46, 0 if there was none; flags are CGB_HOLD, CGB_SUSPENDED. */
+static inline uint8_t cgb_bus_call_from_inside(uint8_t state[CGB_STATE_BYTES], uint8_t answer[CGB_ANSWER_BYTES], uint8_t flags,
+                                               const struct cgb_memory *memory)
+{
+    return cgb_with_memory(state, answer, CGB_KIND_BUS_CALL_FROM_INSIDE, 0, flags, 0, memory);
 }
 
 /* Arbitration with OAM DMA; value 0 is CGB_ARBITRATION_CLEAR, _CONTENDED or _STALL. */
 static inline uint8_t cgb_arbitration(uint8_t state[CGB_STATE_BYTES], uint8_t answer[CGB_ANSWER_BYTES], uint8_t flags)
 {
     return cgb_alone(state, answer, CGB_KIND_ARBITRATION, 0, 0, flags, 0);
+}
+
+/* Arbitration with the object DMA of the state, which transfers exactly while it runs; flags are CGB_HOLD, CGB_SUSPENDED. */
+static inline uint8_t cgb_arbitration_from_inside(uint8_t state[CGB_STATE_BYTES], uint8_t answer[CGB_ANSWER_BYTES], uint8_t flags)
+{
+    return cgb_alone(state, answer, CGB_KIND_ARBITRATION_FROM_INSIDE, 0, 0, flags, 0);
+}
+
+/* Object DMA's part of an M-cycle, given what arbitration answered in it: CGB_ARBITRATION_CLEAR moves a byte to OAM, _CONTENDED
+ * passes it over but counts it, _STALL leaves it for the next M-cycle; at rest nothing happens; any other number gets 6. The values
+ * are CGB_CYCLE_OUTCOME and _SOURCE, the byte is cgb_cycle_byte(answer). */
+static inline uint8_t cgb_object_dma_m_cycle(uint8_t state[CGB_STATE_BYTES], uint8_t answer[CGB_ANSWER_BYTES],
+                                             uint8_t arbitration, const struct cgb_memory *memory)
+{
+    return cgb_with_memory(state, answer, CGB_KIND_OBJECT_DMA_M_CYCLE, arbitration, 0, 0, memory);
 }
 
 /* Whether a CPU read of the address meets the byte that the engine is writing there, and that byte's source. */
@@ -535,6 +611,12 @@ static inline uint8_t cgb_wram_bank(uint8_t state[CGB_STATE_BYTES], uint8_t answ
 static inline uint8_t cgb_svbk_register(uint8_t state[CGB_STATE_BYTES], uint8_t answer[CGB_ANSWER_BYTES])
 {
     return cgb_alone(state, answer, CGB_KIND_SVBK_REGISTER, 0, 0, 0, 0);
+}
+/* object DMA -> runs, bytes counted, page. Object DMA: whether it runs, the bytes counted since the write to FF46,
+ * the page written. */
+static inline uint8_t cgb_object_dma(uint8_t state[CGB_STATE_BYTES], uint8_t answer[CGB_ANSWER_BYTES])
+{
+    return cgb_alone(state, answer, CGB_KIND_OBJECT_DMA, 0, 0, 0, 0);
 }
 /* calls.txt: end */
 

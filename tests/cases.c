@@ -1,6 +1,6 @@
-/* Document 01's cases K1 to K10 by its numbers, each refusal once, and every other call once, through the functions of
- * include/cgb_vram_dma.h: what the header holds of the layouts must be the library's. C99, and C++17 as it stands; tools/examples
- * builds and runs it both ways. */
+/* Document 01's cases K1 to K10 by its numbers, object DMA by the sentences of document 02's A1, each refusal once, and every other
+ * call once, through the functions of include/cgb_vram_dma.h: what the header holds of the layouts must be the library's. C99, and
+ * C++17 as it stands; tools/examples builds and runs it both ways. */
 #include "cgb_vram_dma.h"
 
 #include <stdio.h>
@@ -570,10 +570,301 @@ static void fields(void)
     fall(0);
     fall(0);
     EQUAL(b.state[CGB_AT_CURSOR_QUOTA], 2);
-    EQUAL(CGB_AT_SPARE, 91);
+    EQUAL(CGB_AT_SPARE, 102);
     EQUAL(CGB_SUSPENDED, 2); /* no call tells it from both bits */
     k9_granted();
     EQUAL(b.state[CGB_AT_ARB_GRANTED_AHEAD], 255);
+}
+
+/* ---- Object DMA: document 02's A1 ---- */
+
+/* What OAM holds in front of these. */
+enum { BEFORE = 0xEE };
+
+/* Neither a bank nor a page has the bytes of another. */
+static void fill(uint8_t *bytes, size_t size, size_t first)
+{
+    size_t i;
+    for (i = 0; i < size; i++)
+        bytes[i] = (uint8_t)(i * 7 + i / 256 * 3 + first);
+}
+
+static void power_on_filled(uint8_t compat)
+{
+    power_on(compat);
+    fill(b.cartridge, sizeof b.cartridge, 5);
+    fill(b.wram, sizeof b.wram, 90);
+    fill(b.vram, sizeof b.vram, 170);
+    memset(b.oam, BEFORE, sizeof b.oam);
+}
+
+static void start(uint8_t page, uint64_t edge)
+{
+    ACCEPTED(cgb_start_object_dma(b.state, answer, page, edge, b.wram, sizeof b.wram));
+}
+
+/* What the query says. */
+static void object_dma_is(unsigned runs, unsigned counted, unsigned page, int line)
+{
+    equal(cgb_object_dma(b.state, answer), CGB_ACCEPTED, "the query", line);
+    equal(cgb_value(answer, CGB_OBJECT_DMA_RUNS), runs, "runs", line);
+    equal(cgb_value(answer, CGB_OBJECT_DMA_COUNTED), counted, "counted", line);
+    equal(cgb_value(answer, CGB_OBJECT_DMA_PAGE), page, "the page", line);
+}
+#define OBJECT_DMA_IS(runs, counted, page) object_dma_is(runs, counted, page, __LINE__)
+
+/* The M-cycle call, and its outcome. */
+static unsigned m_cycle(uint8_t arbitration)
+{
+    const struct cgb_memory memory = lent();
+    ACCEPTED(cgb_object_dma_m_cycle(b.state, answer, arbitration, &memory));
+    return cgb_value(answer, CGB_CYCLE_OUTCOME);
+}
+
+static unsigned arbitration_inside(uint8_t flags)
+{
+    ACCEPTED(cgb_arbitration_from_inside(b.state, answer, flags));
+    return cgb_value(answer, 0);
+}
+
+static unsigned bus_inside(uint8_t flags)
+{
+    const struct cgb_memory memory = lent();
+    ACCEPTED(cgb_bus_call_from_inside(b.state, answer, flags, &memory));
+    return cgb_value(answer, CGB_BUS_PAIRS);
+}
+
+/* "The write carries the start edge .. and a new write starts over"; "0 at power-on, where object DMA rests". Document 01 does not list
+ * FF46 among what compat locks. */
+static void object_dma_write(uint8_t compat)
+{
+    power_on_filled(compat);
+    EQUAL(cgb_number(b.state, CGB_AT_OBJECT_DMA_START_EDGE, 8), 0);
+    OBJECT_DMA_IS(0, 0, 0);
+    start(0xC1, 0x0123456789ABCDEFu);
+    EQUAL(b.state[CGB_AT_OBJECT_DMA_RUNNING], 1);
+    EQUAL(b.state[CGB_AT_OBJECT_DMA_PAGE], 0xC1);
+    EQUAL(b.state[CGB_AT_OBJECT_DMA_COUNTED], 0);
+    EQUAL(cgb_number(b.state, CGB_AT_OBJECT_DMA_START_EDGE, 8), 0x0123456789ABCDEFu);
+    OBJECT_DMA_IS(1, 0, 0xC1);
+    m_cycle(CGB_ARBITRATION_CLEAR);
+    m_cycle(CGB_ARBITRATION_CLEAR);
+    OBJECT_DMA_IS(1, 2, 0xC1);
+    start(0xDF, 5); /* page DFh is the last */
+    OBJECT_DMA_IS(1, 0, 0xDF);
+    EQUAL(cgb_number(b.state, CGB_AT_OBJECT_DMA_START_EDGE, 8), 5);
+    EQUAL(m_cycle(CGB_ARBITRATION_CLEAR), CGB_CYCLE_MOVED);
+    EQUAL(cgb_value(answer, CGB_CYCLE_SOURCE), 0xDF00);
+    set(0xFF46, 0x12); /* the other write has start edge 0 */
+    EQUAL(cgb_number(b.state, CGB_AT_OBJECT_DMA_START_EDGE, 8), 0);
+    OBJECT_DMA_IS(1, 0, 0x12);
+}
+
+/* "moves 160 bytes from p x 256 up to FE00h-FE9Fh, one byte each M-cycle call": these, and none after them. */
+static void whole_run(uint8_t page, const uint8_t *from)
+{
+    unsigned k;
+    memset(b.oam, BEFORE, sizeof b.oam);
+    start(page, 0x8000000000000001u);
+    for (k = 0; k < 160; k++) {
+        OBJECT_DMA_IS(1, k, page);
+        EQUAL(m_cycle(CGB_ARBITRATION_CLEAR), CGB_CYCLE_MOVED);
+        EQUAL(cgb_value(answer, CGB_CYCLE_SOURCE), page * 256u + k);
+        EQUAL(cgb_cycle_byte(answer), from[k]);
+        EQUAL(b.oam[k], from[k]);
+        EQUAL(k == 159 || b.oam[k + 1] == BEFORE, 1);
+    }
+    EQUAL(memcmp(b.oam, from, sizeof b.oam), 0);
+    OBJECT_DMA_IS(0, 160, page);
+    EQUAL(b.state[CGB_AT_OBJECT_DMA_RUNNING], 0);
+    EQUAL(cgb_number(b.state, CGB_AT_OBJECT_DMA_START_EDGE, 8), 0x8000000000000001u);
+    memset(b.oam, BEFORE, sizeof b.oam);
+    EQUAL(m_cycle(CGB_ARBITRATION_CLEAR), CGB_CYCLE_NOTHING);
+    EQUAL(cgb_value(answer, CGB_CYCLE_SOURCE), 0);
+    OBJECT_DMA_IS(0, 160, page);
+    EQUAL(b.oam[0], BEFORE);
+}
+
+/* "through the same read rules and stand-ins, except that 8000h-9FFFh reads VRAM in the bank of FF4F": index = address below 8000h,
+ * address - 2000h from A000h to BFFFh; D000h up in bank FF70, where 0 means 1. */
+static void whole_runs(void)
+{
+    power_on_filled(0);
+    whole_run(0x00, b.cartridge);
+    whole_run(0x7F, b.cartridge + 0x7F00);
+    whole_run(0x80, b.vram);
+    whole_run(0x9F, b.vram + 0x1F00);
+    set(0xFF4F, 0x01);
+    whole_run(0x80, b.vram + 8192);
+    whole_run(0x9F, b.vram + 8192 + 0x1F00);
+    whole_run(0xA0, b.cartridge + 0x8000);
+    whole_run(0xBF, b.cartridge + 0x9F00);
+    whole_run(0xC0, b.wram);
+    whole_run(0xCF, b.wram + 0x0F00);
+    set(0xFF70, 0x00);
+    whole_run(0xD0, b.wram + 4096);
+    set(0xFF70, 0x05);
+    whole_run(0xC0, b.wram);
+    whole_run(0xD0, b.wram + 5 * 4096);
+    whole_run(0xDF, b.wram + 5 * 4096 + 0x0F00);
+}
+
+/* The bank is that of the call. */
+static void bank_in_the_run(void)
+{
+    power_on_filled(0);
+    start(0xD0, 0);
+    set(0xFF70, 0x02);
+    m_cycle(CGB_ARBITRATION_CLEAR);
+    set(0xFF70, 0x03);
+    m_cycle(CGB_ARBITRATION_CLEAR);
+    EQUAL(b.oam[0], b.wram[2 * 4096]);
+    EQUAL(b.oam[1], b.wram[3 * 4096 + 1]);
+    start(0x80, 0);
+    m_cycle(CGB_ARBITRATION_CLEAR);
+    set(0xFF4F, 0x01);
+    m_cycle(CGB_ARBITRATION_CLEAR);
+    EQUAL(b.oam[0], b.vram[0]);
+    EQUAL(b.oam[1], b.vram[8192 + 1]);
+}
+
+/* "contended, its own byte is passed over but counted; stalled, it waits"; "at rest this call changes nothing". */
+static void answers_of_arbitration(void)
+{
+    uint8_t copy[CGB_STATE_BYTES];
+    uint8_t any;
+    unsigned k;
+    power_on_filled(0);
+    memcpy(copy, b.state, sizeof copy);
+    for (any = CGB_ARBITRATION_CLEAR; any <= CGB_ARBITRATION_STALL; any++) {
+        EQUAL(m_cycle(any), CGB_CYCLE_NOTHING);
+        EQUAL(memcmp(copy, b.state, sizeof copy), 0);
+    }
+    start(0xC0, 0);
+    EQUAL(m_cycle(CGB_ARBITRATION_CONTENDED), CGB_CYCLE_PASSED_OVER);
+    EQUAL(cgb_value(answer, CGB_CYCLE_SOURCE), 0xC000);
+    EQUAL(cgb_cycle_byte(answer), 0);
+    OBJECT_DMA_IS(1, 1, 0xC0);
+    EQUAL(m_cycle(CGB_ARBITRATION_STALL), CGB_CYCLE_NOTHING);
+    EQUAL(cgb_value(answer, CGB_CYCLE_SOURCE), 0);
+    OBJECT_DMA_IS(1, 1, 0xC0);
+    EQUAL(b.oam[0], BEFORE);
+    EQUAL(b.oam[1], BEFORE);
+    EQUAL(m_cycle(CGB_ARBITRATION_CLEAR), CGB_CYCLE_MOVED);
+    EQUAL(cgb_value(answer, CGB_CYCLE_SOURCE), 0xC001);
+    EQUAL(b.oam[0], BEFORE);
+    EQUAL(b.oam[1], b.wram[1]);
+    for (k = 2; k < 159; k++)
+        m_cycle(CGB_ARBITRATION_CONTENDED);
+    OBJECT_DMA_IS(1, 159, 0xC0);
+    EQUAL(m_cycle(CGB_ARBITRATION_STALL), CGB_CYCLE_NOTHING);
+    OBJECT_DMA_IS(1, 159, 0xC0);
+    EQUAL(m_cycle(CGB_ARBITRATION_CONTENDED), CGB_CYCLE_PASSED_OVER);
+    OBJECT_DMA_IS(0, 160, 0xC0);
+    EQUAL(b.oam[159], BEFORE);
+}
+
+/* "Object DMA runs, to arbitration too, from the write until 160 are counted". Arbitration keeps that it transferred, so the M-cycle after
+ * the 160th is contended too: its bus call deposits, by K8 the second byte where both edges are 0. */
+static void arbitration_to_its_end(void)
+{
+    uint8_t copy[CGB_STATE_BYTES];
+    unsigned k;
+    power_on_filled(0);
+    set(0xFF55, 0x00);
+    fall(3);
+    EQUAL(arbitration_inside(CGB_HOLD), CGB_ARBITRATION_CLEAR);
+    start(0xC0, 0);
+    memcpy(copy, b.state, sizeof copy);
+    EQUAL(arbitration_inside(0), CGB_ARBITRATION_CLEAR);
+    EQUAL(b.state[CGB_AT_OAM_WAS_TRANSFERRING], 1);
+    memcpy(b.state, copy, sizeof copy);
+    EQUAL(arbitration_inside(CGB_SUSPENDED), CGB_ARBITRATION_CONTENDED);
+    memcpy(b.state, copy, sizeof copy);
+    for (k = 0; k < 159; k++)
+        m_cycle(CGB_ARBITRATION_CLEAR);
+    EQUAL(arbitration_inside(CGB_HOLD), CGB_ARBITRATION_CONTENDED);
+    EQUAL(m_cycle(CGB_ARBITRATION_CONTENDED), CGB_CYCLE_PASSED_OVER);
+    EQUAL(bus_inside(0), 0); /* neither held nor suspended */
+    EQUAL(bus_inside(CGB_HOLD), 2);
+    EQUAL(cgb_pair_source(answer, 1), 1);
+    EQUAL(cgb_pair_byte(answer, 1), b.cartridge[1]);
+    OBJECT_DMA_IS(0, 160, 0xC0);
+    fall(3);
+    EQUAL(arbitration_inside(CGB_HOLD), CGB_ARBITRATION_CONTENDED);
+    EQUAL(m_cycle(CGB_ARBITRATION_CONTENDED), CGB_CYCLE_NOTHING);
+    EQUAL(bus_inside(CGB_SUSPENDED), 2);
+    fall(3);
+    EQUAL(arbitration_inside(CGB_HOLD), CGB_ARBITRATION_CLEAR);
+    EQUAL(bus_inside(CGB_HOLD), 2);
+    for (k = 0; k < 159; k++)
+        EQUAL(b.oam[k], k == 1 || k == 3 ? b.cartridge[k] : b.wram[k]);
+    EQUAL(b.oam[159], BEFORE);
+}
+
+/* K8, the start edge from inside, of a run that goes on (cycles 1) or has ended (160). A write between arbitration and bus call starts
+ * over and leaves that the two met. */
+static void start_edge(uint64_t block_edge, uint64_t edge, unsigned second, unsigned cycles)
+{
+    uint8_t copy[CGB_STATE_BYTES];
+    unsigned k;
+    power_on_filled(0);
+    set(0xFF51, 0xC0);
+    set(0xFF55, 0x80);
+    fall(3);
+    fall(0);
+    ACCEPTED(cgb_fall(b.state, answer, 0, 0, block_edge));
+    fall(0);
+    EQUAL(bus_inside(CGB_HOLD), 0);
+    EQUAL(cgb_value(answer, CGB_BUS_SET_UP_CELL), 1);
+    fall(0);
+    start(0xC0, ~edge);
+    EQUAL(arbitration_inside(CGB_HOLD), CGB_ARBITRATION_CONTENDED);
+    memcpy(copy, b.state, sizeof copy);
+    start(0xD0, edge);
+    EQUAL(memcmp(copy, b.state, CGB_AT_OBJECT_DMA_RUNNING), 0);
+    for (k = 0; k < cycles; k++)
+        EQUAL(m_cycle(CGB_ARBITRATION_CONTENDED), CGB_CYCLE_PASSED_OVER);
+    OBJECT_DMA_IS(cycles < 160, cycles, 0xD0);
+    EQUAL(bus_inside(CGB_HOLD), 2);
+    EQUAL(b.oam[second], b.wram[second]);
+    EQUAL(b.oam[1 - second], BEFORE);
+}
+
+/* K6's escape byte at double speed stalls object DMA; its byte comes an M-cycle later. */
+static void stall(void)
+{
+    cut();
+    start(0xC0, 0);
+    fall(0);
+    EQUAL(arbitration_inside(CGB_HOLD), CGB_ARBITRATION_STALL);
+    EQUAL(m_cycle(CGB_ARBITRATION_STALL), CGB_CYCLE_NOTHING);
+    EQUAL(bus_inside(CGB_HOLD), 1);
+    EQUAL(cgb_pair_source(answer, 0), 2);
+    fall(0);
+    EQUAL(arbitration_inside(CGB_HOLD), CGB_ARBITRATION_CLEAR);
+    EQUAL(m_cycle(CGB_ARBITRATION_CLEAR), CGB_CYCLE_MOVED);
+    EQUAL(cgb_value(answer, CGB_CYCLE_SOURCE), 0xC000);
+    EQUAL(said(cgb_switch_in_progress), 1); /* which it does not look at */
+}
+
+static void object_dma(void)
+{
+    unsigned cycles;
+    object_dma_write(0);
+    object_dma_write(1);
+    whole_runs();
+    bank_in_the_run();
+    answers_of_arbitration();
+    arbitration_to_its_end();
+    for (cycles = 1; cycles <= 160; cycles += 159) {
+        start_edge(100, 98, 1, cycles);
+        start_edge(100, 92, 1, cycles);
+        start_edge(100, 96, 0, cycles);
+        start_edge(100, 94, 0, cycles);
+        start_edge(0, 0, 1, cycles);
+    }
+    stall();
 }
 
 /* ---- The refusals ---- */
@@ -593,8 +884,8 @@ static void refused(uint8_t result, uint8_t number, const struct bench *before, 
 static struct bench before;
 #define REFUSED(call, number) (before = b, refused(call, number, &before, __LINE__))
 
-/* A bus call with one slice of another length. */
-static uint8_t bus_with(unsigned slice, size_t bytes)
+/* A call that is lent four slices, with one of another length. */
+static uint8_t call_with(uint8_t kind, unsigned slice, size_t bytes)
 {
     struct cgb_memory memory = lent();
     size_t *lengths[4];
@@ -603,20 +894,24 @@ static uint8_t bus_with(unsigned slice, size_t bytes)
     lengths[2] = &memory.vram_bytes;
     lengths[3] = &memory.oam_bytes;
     *lengths[slice] = bytes;
-    return cgb_bus_call(b.state, answer, CGB_HOLD, 0, &memory);
+    return kind == CGB_KIND_BUS_CALL               ? cgb_bus_call(b.state, answer, CGB_HOLD, 0, &memory)
+           : kind == CGB_KIND_BUS_CALL_FROM_INSIDE ? cgb_bus_call_from_inside(b.state, answer, CGB_HOLD, &memory)
+                                                   : cgb_object_dma_m_cycle(b.state, answer, CGB_ARBITRATION_CLEAR, &memory);
 }
 
 static void refused_lengths(void)
 {
     static const size_t lengths[4] = {CGB_CARTRIDGE_BYTES, CGB_WRAM_BYTES, CGB_VRAM_BYTES, CGB_OAM_BYTES};
-    unsigned slice;
+    static const uint8_t kinds[3] = {CGB_KIND_BUS_CALL, CGB_KIND_BUS_CALL_FROM_INSIDE, CGB_KIND_OBJECT_DMA_M_CYCLE};
+    unsigned kind, slice;
     REFUSED(cgb_read(b.state, answer, 0xFF55, b.wram, CGB_WRAM_BYTES - 1), CGB_REFUSED_LENGTH);
     REFUSED(cgb_write(b.state, answer, 0xFF55, 0, 1, b.wram, CGB_WRAM_BYTES + 1), CGB_REFUSED_LENGTH);
-    for (slice = 0; slice < 4; slice++) {
-        REFUSED(bus_with(slice, lengths[slice] - 1), CGB_REFUSED_LENGTH);
-        REFUSED(bus_with(slice, lengths[slice] + 1), CGB_REFUSED_LENGTH);
-        REFUSED(bus_with(slice, 0), CGB_REFUSED_LENGTH);
-    }
+    for (kind = 0; kind < 3; kind++)
+        for (slice = 0; slice < 4; slice++) {
+            REFUSED(call_with(kinds[kind], slice, lengths[slice] - 1), CGB_REFUSED_LENGTH);
+            REFUSED(call_with(kinds[kind], slice, lengths[slice] + 1), CGB_REFUSED_LENGTH);
+            REFUSED(call_with(kinds[kind], slice, 0), CGB_REFUSED_LENGTH);
+        }
 }
 
 static uint8_t perform_kind(uint8_t kind)
@@ -624,6 +919,57 @@ static uint8_t perform_kind(uint8_t kind)
     uint8_t call[CGB_CALL_BYTES];
     cgb_record(call, kind, 0, 0, 0, 0);
     return cgb_perform(b.state, call, answer, NULL, 0, NULL, 0, NULL, 0, NULL, 0);
+}
+
+/* A1: "A write to FF46 no longer gets 4, a read still does"; "21, page above DFh, tested after 4, nothing changed", so what runs goes on;
+ * the write's 2 comes in front of it. An M-cycle call with an answer that arbitration never gives is no call: 6. */
+static void refused_object_dma(uint8_t compat)
+{
+    const struct cgb_memory memory = lent();
+    unsigned page, other;
+    power_on_filled(compat);
+    start(0xDF, 3);
+    m_cycle(CGB_ARBITRATION_CLEAR);
+    for (page = 0xE0; page <= 0xFF; page++) {
+        REFUSED(cgb_start_object_dma(b.state, answer, (uint8_t)page, 9, b.wram, sizeof b.wram), 21);
+        REFUSED(cgb_write(b.state, answer, 0xFF46, (uint8_t)page, 1, b.wram, sizeof b.wram), CGB_REFUSED_PAGE);
+    }
+    REFUSED(cgb_start_object_dma(b.state, answer, 0xE0, 9, b.wram, CGB_WRAM_BYTES - 1), 2);
+    REFUSED(cgb_start_object_dma(b.state, answer, 0xC0, 9, b.wram, CGB_WRAM_BYTES + 1), 2);
+    REFUSED(cgb_read(b.state, answer, 0xFF46, b.wram, sizeof b.wram), 4);
+    REFUSED(cgb_write(b.state, answer, 0xFF45, 0xC0, 1, b.wram, sizeof b.wram), 4);
+    REFUSED(cgb_write(b.state, answer, 0xFF47, 0xC0, 1, b.wram, sizeof b.wram), 4);
+    for (other = CGB_ARBITRATION_STALL + 1; other <= 0xFF; other++)
+        REFUSED(cgb_object_dma_m_cycle(b.state, answer, (uint8_t)other, &memory), CGB_REFUSED_RECORD);
+    EQUAL(m_cycle(CGB_ARBITRATION_CLEAR), CGB_CYCLE_MOVED);
+    EQUAL(cgb_value(answer, CGB_CYCLE_SOURCE), 0xDF01);
+}
+
+/* "7 gains more than 160 moved bytes and a page above DFh", whether it runs or rests. */
+static void object_dma_of_no_run(uint8_t running)
+{
+    const struct cgb_memory memory = lent();
+    power_on(0);
+    set(0xFF55, 0x00);
+    fall(3);
+    b.state[CGB_AT_OBJECT_DMA_RUNNING] = running;
+    b.state[CGB_AT_OBJECT_DMA_PAGE] = 0xDF;
+    b.state[CGB_AT_OBJECT_DMA_COUNTED] = 160;
+    OBJECT_DMA_IS(0, 160, 0xDF); /* no run leaves it with the mark set, but it passes, and rests */
+    EQUAL(m_cycle(CGB_ARBITRATION_CLEAR), CGB_CYCLE_NOTHING);
+    EQUAL(arbitration_inside(CGB_HOLD), CGB_ARBITRATION_CLEAR);
+    OBJECT_DMA_IS(0, 160, 0xDF);
+    b.state[CGB_AT_OBJECT_DMA_COUNTED] = 161;
+    REFUSED(cgb_object_dma(b.state, answer), 7);
+    REFUSED(cgb_fall(b.state, answer, 0, 0, 0), 7);
+    REFUSED(cgb_start_object_dma(b.state, answer, 0xC0, 0, b.wram, 0), 7);
+    REFUSED(cgb_object_dma_m_cycle(b.state, answer, CGB_ARBITRATION_CLEAR, &memory), 7);
+    b.state[CGB_AT_OBJECT_DMA_COUNTED] = 0;
+    b.state[CGB_AT_OBJECT_DMA_PAGE] = 0xE0;
+    REFUSED(cgb_object_dma(b.state, answer), 7);
+    REFUSED(cgb_tally(b.state, answer), 7);
+    REFUSED(cgb_arbitration_from_inside(b.state, answer, CGB_HOLD), 7);
+    REFUSED(cgb_bus_call_from_inside(b.state, answer, CGB_HOLD, &memory), 7);
 }
 
 /* A number of document 01 for each, and the neighbour that is accepted. */
@@ -671,6 +1017,13 @@ static void refusals(void)
     power_on(0);
     b.state[CGB_AT_VRAM_SELECTED] = 2;
     REFUSED(cgb_fall(b.state, answer, 0, 0, 0), 7);
+    power_on(0);
+    b.state[CGB_AT_OBJECT_DMA_RUNNING] = 2;
+    REFUSED(cgb_object_dma(b.state, answer), 7);
+    refused_object_dma(0);
+    refused_object_dma(1);
+    object_dma_of_no_run(0);
+    object_dma_of_no_run(1);
 }
 
 static void texts(void)
@@ -678,6 +1031,7 @@ static void texts(void)
     EQUAL(strcmp(cgb_refusal_text(CGB_ACCEPTED), "accepted"), 0);
     EQUAL(strcmp(cgb_refusal_text(8), "no refusal of this library"), 0);
     EQUAL(strcmp(cgb_refusal_text(CGB_REFUSED_BLACKOUT), "a switch while the blackout runs"), 0);
+    EQUAL(strcmp(cgb_refusal_text(CGB_REFUSED_PAGE), "the page is above DFh"), 0);
 }
 
 /* NULL with length 0, and one pointer for all four slices of length 0. */
@@ -697,6 +1051,9 @@ static void empty_slices(void)
     REFUSED(cgb_bus_call(b.state, answer, CGB_HOLD, 0, &memory), CGB_REFUSED_LENGTH);
     REFUSED(cgb_read(b.state, answer, 0xC000, NULL, 0), CGB_REFUSED_LENGTH);
     REFUSED(cgb_write(b.state, answer, 0xC000, 1, 1, NULL, 0), CGB_REFUSED_LENGTH);
+    REFUSED(cgb_start_object_dma(b.state, answer, 0xC0, 0, NULL, 0), CGB_REFUSED_LENGTH);
+    REFUSED(cgb_object_dma_m_cycle(b.state, answer, CGB_ARBITRATION_CLEAR, &memory), CGB_REFUSED_LENGTH);
+    REFUSED(cgb_bus_call_from_inside(b.state, answer, CGB_HOLD, &memory), CGB_REFUSED_LENGTH);
     cgb_record(call, CGB_KIND_FALL, 0, 3, 0, 0);
     ACCEPTED(cgb_perform(b.state, call, answer, &none, 0, &none, 0, &none, 0, &none, 0));
     cgb_record(call, CGB_KIND_BUS_CALL, 0, 0, CGB_HOLD, 0);
@@ -723,6 +1080,7 @@ int main(void)
     lcd_off();
     wake_park_and_bank();
     fields();
+    object_dma();
     refusals();
     texts();
     empty_slices();
@@ -730,6 +1088,6 @@ int main(void)
         fprintf(stderr, "tests/cases.c: %u of %u comparisons failed\n", failures, comparisons);
         return 1;
     }
-    printf("K1 to K10, every call and every refusal: %u comparisons\n", comparisons);
+    printf("K1 to K10, object DMA, every call and every refusal: %u comparisons\n", comparisons);
     return 0;
 }

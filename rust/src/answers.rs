@@ -77,6 +77,37 @@ pub enum Status {
     },
 }
 
+/// What object DMA did in an M-cycle.
+#[derive(Clone, Copy, Debug, PartialEq, Eq, Hash)]
+pub enum Cycle {
+    /// Nothing: it rests, or arbitration stalled it and its byte waits for the next M-cycle.
+    Nothing,
+    /// A byte was moved to OAM, at FE00h + the low byte of its source.
+    Moved {
+        /// The address that it was read from.
+        source: u16,
+        /// The byte.
+        byte: u8,
+    },
+    /// A byte was counted and not moved: VRAM DMA had the bus. That M-cycle's bus call deposits one of its own in OAM,
+    /// at FE00h + the low byte of *its* source, up to FE9Fh.
+    PassedOver {
+        /// The address that it would have been read from.
+        source: u16,
+    },
+}
+
+/// Object DMA as it stands.
+#[derive(Clone, Copy, Debug, PartialEq, Eq, Hash)]
+pub struct ObjectDma {
+    /// It runs: from an accepted write to FF46 until 160 bytes are counted.
+    pub runs: bool,
+    /// Bytes counted since that write, those passed over too: 0 to 160.
+    pub counted: u8,
+    /// The page that was written: the next byte is read at page × 256 + `counted`.
+    pub page: u8,
+}
+
 /// What a bus call did.
 #[derive(Clone, Copy, Debug, PartialEq, Eq, Hash)]
 pub struct Moved {

@@ -8,7 +8,7 @@ pub const STATE_BYTES: usize = 248;
 /// The length of a call's record: byte 0 is its kind ([`kind`](crate::kind)), behind it are the inputs.
 pub const CALL_BYTES: usize = 16;
 /// The length of an answer's record: byte 0 is the refusal or 0, bytes 2 to 9 are four values of two bytes, bytes 10 to
-/// 19 the pairs of a bus call.
+/// 19 the pairs of a bus call; byte 18 is also the byte that an object DMA M-cycle moved.
 pub const ANSWER_BYTES: usize = 24;
 
 /// The length of the cartridge's slice: addresses below 8000h, then A000h to BFFFh from index 8000h on.
@@ -22,7 +22,7 @@ pub const OAM_BYTES: usize = 160;
 
 /// What a call lends: a slice of another length than the call wants gets refusal 2. Nothing is kept after the call.
 pub struct Memory<'a> {
-    /// [`CARTRIDGE_BYTES`]: what the engine reads below 8000h, then A000h to BFFFh from index 8000h on.
+    /// [`CARTRIDGE_BYTES`]: what is read below 8000h, then A000h to BFFFh from index 8000h on.
     pub cartridge: &'a [u8],
     /// [`WRAM_BYTES`], in banks of 4,096: bank 0 is at C000h, the bank of FF70 (1 where that is 0) at D000h.
     pub wram: &'a mut [u8],

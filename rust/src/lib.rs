@@ -1,10 +1,12 @@
-//! The proved model of the Game Boy Color's VRAM DMA engine (FF51 to FF55) and speed switch (FF4D), behind safe calls.
+//! The proved model of the Game Boy Color's VRAM DMA engine (FF51 to FF55), object DMA (FF46) and speed switch (FF4D),
+//! behind safe calls.
 //!
 //! [`Cgb`] is the state. Each method is one call of the library: it gives the call's answer, or the [`Refusal`], and
 //! then neither the state nor lent memory has changed. Every call is refused with 7 where the bytes are no state's or
-//! the state fails one of six tests ([`Refusal::NoState`]); what else refuses it is said at the method, in the order of
+//! the state fails one of eight tests ([`Refusal::NoState`]); what else refuses it is said at the method, in the order of
 //! the tests. A query takes `&self`, and 7 alone refuses it. No call panics, and none keeps what it was lent.
-//! Who calls what when (a fall for each dot, a bus call at the end of each M-cycle) is docs/DRIVING.md of the repository.
+//! Who calls what when (a fall for each dot; arbitration, object DMA and the bus call at the end of each M-cycle) is
+//! docs/DRIVING.md of the repository.
 //!
 //! A General transfer of 16 bytes from the cartridge into VRAM, in document 01's rounds of a fall and a held bus call
 //! (K1):
@@ -51,7 +53,7 @@ mod record;
 mod refusal;
 pub mod state;
 
-pub use answers::{Arbitration, Claim, CutOutcome, Moved, Pair, Status, Tally};
+pub use answers::{Arbitration, Claim, CutOutcome, Cycle, Moved, ObjectDma, Pair, Status, Tally};
 pub use entry::{CARTRIDGE_BYTES, Memory, OAM_BYTES, VRAM_BYTES, WRAM_BYTES};
 pub use inputs::{Fall, SwitchInputs};
 pub use print::Changes;
@@ -140,18 +142,31 @@ impl Cgb {
         Ok(self.ask(Record::of(kind))?.byte(0))
     }
 
-    /// Writes a byte: to WRAM (C000h to FDFFh, E000h up repeating C000h up), to FEA0h to FEFFh, or to a register (FF4C,
-    /// FF4D, FF4F, FF51 to FF55, FF70, FF72 to FF75). `lcd_on` is looked at where FF55 arms HBlank: with the LCD off
-    /// that latches a block at once.
+    /// Writes a byte: to WRAM (C000h to FDFFh, E000h up repeating C000h up), to FEA0h to FEFFh, or to a register (FF46,
+    /// FF4C, FF4D, FF4F, FF51 to FF55, FF70, FF72 to FF75). `lcd_on` is looked at where FF55 arms HBlank: with the LCD
+    /// off that latches a block at once. At FF46 object DMA starts with start edge 0;
+    /// [`start_object_dma`](Self::start_object_dma) takes another.
     ///
-    /// Refusals: 2 for WRAM's length, whatever the address; 4 for any other address.
+    /// Refusals: 2 for WRAM's length, whatever the address; 4 for any other address; 21 for a page above DFh at FF46.
     pub fn write(&mut self, wram: &mut [u8], address: u16, value: u8, lcd_on: bool) -> Result<(), Refusal> {
         let record = Record::of(kind::WRITE).address(address).small(value).bits(&[lcd_on]);
         perform(&mut self.0, record, Memory { cartridge: &[], wram, vram: &mut [], oam: &mut [] }).map(|_| ())
     }
 
-    /// Reads a byte, at the addresses that a write has. The slice is lent for writing because the library takes it so;
-    /// a read leaves it as it is.
+    /// Writes the page to FF46, under compat too: object DMA starts, or starts over, and will move 160 bytes from
+    /// `page` × 256 up to FE00h to FE9Fh, one in each [`object_dma_m_cycle`](Self::object_dma_m_cycle). `start_edge` is
+    /// the master edge at which it starts; the state keeps it for
+    /// [`vram_dma_commit_bytes_inside`](Self::vram_dma_commit_bytes_inside) until the next accepted write. No byte of
+    /// WRAM is looked at: its length is, as in every write.
+    ///
+    /// Refusals: 2 for WRAM's length; 21 for a page above DFh, and then what runs goes on.
+    pub fn start_object_dma(&mut self, wram: &mut [u8], page: u8, start_edge: u64) -> Result<(), Refusal> {
+        let record = Record::of(kind::WRITE).address(0xFF46).small(page).edge(start_edge);
+        perform(&mut self.0, record, Memory { cartridge: &[], wram, vram: &mut [], oam: &mut [] }).map(|_| ())
+    }
+
+    /// Reads a byte, at the addresses that a write has, but not at FF46. The slice is lent for writing because the
+    /// library takes it so; a read leaves it as it is.
     ///
     /// Refusals: 2 for WRAM's length, whatever the address; 4 for any other address.
     pub fn read(&self, wram: &mut [u8], address: u16) -> Result<u8, Refusal> {
@@ -238,6 +253,37 @@ impl Cgb {
         oam_transfers: bool,
     ) -> Result<Arbitration, Refusal> {
         Ok(self.alone(Record::of(kind::ARBITRATION).bits(&[hold, suspended, oam_transfers]))?.arbitration())
+    }
+
+    /// [`vram_dma_arbitrate_oam`](Self::vram_dma_arbitrate_oam) with the object DMA of the state: it transfers exactly
+    /// while it runs. Because the last arbitration counts too, contention reaches one M-cycle past the one that counts
+    /// the 160th byte.
+    pub fn vram_dma_arbitrate_inside(&mut self, hold: bool, suspended: bool) -> Result<Arbitration, Refusal> {
+        Ok(self.alone(Record::of(kind::ARBITRATION_FROM_INSIDE).bits(&[hold, suspended]))?.arbitration())
+    }
+
+    /// Object DMA's part of an M-cycle, between arbitration, whose answer it is given and believes, and the bus call.
+    /// Where it runs, [`Arbitration::Clear`] moves the byte at page × 256 + counted to OAM and counts it,
+    /// [`Arbitration::Contended`] counts it and leaves OAM to the bus call, and [`Arbitration::Stall`] does nothing; the
+    /// 160th byte ends the run. At rest nothing happens, whatever the answer. A byte is read as VRAM DMA reads it, but
+    /// that 8000h to 9FFFh is VRAM, in the bank that FF4F has at that call.
+    ///
+    /// Refusal: 2 for any of the four lengths, at rest too.
+    pub fn object_dma_m_cycle(&mut self, arbitration: Arbitration, memory: Memory) -> Result<Cycle, Refusal> {
+        Ok(perform(&mut self.0, Record::of(kind::OBJECT_DMA_M_CYCLE).arbitration(arbitration), memory)?.cycle())
+    }
+
+    /// [`vram_dma_commit_bytes`](Self::vram_dma_commit_bytes) with the start edge of the last accepted write to FF46, 0
+    /// where there was none.
+    ///
+    /// Refusal: 2 for any of the four lengths, held or not.
+    pub fn vram_dma_commit_bytes_inside(
+        &mut self,
+        memory: Memory,
+        hold: bool,
+        suspended: bool,
+    ) -> Result<Moved, Refusal> {
+        Ok(perform(&mut self.0, Record::of(kind::BUS_CALL_FROM_INSIDE).bits(&[hold, suspended]), memory)?.moved())
     }
 
     /// The write conflict: the source of the byte that the engine is writing at this address, if a CPU *read* of the

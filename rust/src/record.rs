@@ -1,5 +1,5 @@
 //! A call's record and an answer's (include/cgb_vram_dma.h), put together and taken apart.
-use crate::answers::{Arbitration, Claim, CutOutcome, Moved, Pair, Status, Tally};
+use crate::answers::{Arbitration, Claim, CutOutcome, Cycle, Moved, ObjectDma, Pair, Status, Tally};
 use crate::entry::{ANSWER_BYTES, CALL_BYTES};
 
 pub(crate) struct Record([u8; CALL_BYTES]);
@@ -25,6 +25,13 @@ impl Record {
             None => 4,
             Some(phase @ 0..=3) => phase,
             Some(_) => u8::MAX,
+        })
+    }
+    pub fn arbitration(self, answer: Arbitration) -> Self {
+        self.small(match answer {
+            Arbitration::Clear => 0,
+            Arbitration::Contended => 1,
+            Arbitration::Stall => 2,
         })
     }
     pub fn bits(mut self, bits: &[bool]) -> Self {
@@ -95,6 +102,16 @@ impl Answer {
             1 => Status::General { left: self.word(1) },
             _ => Status::HBlank { left: self.word(1), source: self.word(2), destination: self.word(3) },
         }
+    }
+    pub fn cycle(&self) -> Cycle {
+        match self.word(0) {
+            0 => Cycle::Nothing,
+            1 => Cycle::Moved { source: self.word(1), byte: self.0[18] },
+            _ => Cycle::PassedOver { source: self.word(1) },
+        }
+    }
+    pub fn object_dma(&self) -> ObjectDma {
+        ObjectDma { runs: self.flag(0), counted: self.byte(1), page: self.byte(2) }
     }
     pub fn moved(&self) -> Moved {
         let pair = |k: usize| {

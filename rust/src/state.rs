@@ -1,6 +1,6 @@
 //! The state's fields, read from its bytes: [`Cgb::state`](crate::Cgb::state) gives them, and `{:?}` of a
-//! [`Cgb`](crate::Cgb) prints them. The names and the parts are the original's, and the offsets stand in this file
-//! once. docs/STATE-LAYOUT.md has the same list, and rust/tests/layout.rs holds the two together.
+//! [`Cgb`](crate::Cgb) prints them. The names and the parts are the original's, but for object DMA, which it has not; the
+//! offsets stand in this file once. docs/STATE-LAYOUT.md has the same list, and rust/tests/layout.rs holds the two together.
 //!
 //! A countdown is the number of its ticks that are left. A fall is gated where the CPU is stopped, or halted without a
 //! latched interrupt request; an entry is a fall in mode 0 when the one before was not, or there was none. Later
@@ -271,6 +271,20 @@ part! {
 }
 
 part! {
+    /// What is kept of object DMA, from FF46 on.
+    ObjectDmaState, "object_dma." {
+        /// FF46 has started it, and it has not come to its end. It runs where this is set and `counted` is below 160.
+        running: bool => 91,
+        /// The page: FF46 as written, 00h to DFh.
+        page: u8 => 92,
+        /// Bytes counted since that write, those passed over too, up to 160: document 02's *moved bytes* of refusal 7.
+        counted: u8 => 93,
+        /// The master edge at which it started, which stays after its end.
+        start_edge: u64 => 94,
+    }
+}
+
+part! {
     /// The state of the console, as far as the model goes.
     State, "" {
         /// The transfer engine.
@@ -305,5 +319,7 @@ part! {
         vram: CgbVram,
         /// What the console keeps of the last switch and of the last commit.
         console_state: CgbConsoleState,
+        /// What is kept of object DMA.
+        object_dma: ObjectDmaState,
     }
 }

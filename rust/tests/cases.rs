@@ -252,11 +252,11 @@ fn a_phase_that_is_none_of_0_to_3_is_refused() {
     assert_eq!(Cgb::from_bytes(bytes).attempt_speed_switch(at(4)), Err(Refusal::NoState));
 }
 
-/// Document 01, "Declined by input" and "Declined by state".
+/// Document 01, "Declined by input" and "Declined by state"; document 02, A1.
 #[test]
 fn a_refusal_says_its_number() {
     let numbers: Vec<u8> = Refusal::NAMED.iter().map(|refusal| refusal.number()).collect();
-    assert_eq!(numbers, [1, 2, 3, 4, 5, 6, 7, 11, 12, 13, 14]);
+    assert_eq!(numbers, [1, 2, 3, 4, 5, 6, 7, 11, 12, 13, 14, 21]);
     assert_eq!(Refusal::of(0), None);
     for number in 1..=255 {
         let refusal = Refusal::of(number).unwrap();

@@ -1,7 +1,7 @@
 //! The exported entry as a C program calls it, with the bytes of include/cgb_vram_dma.h: what the typed wrapper cannot ask. A
-//! refused call leaves document 01's number and zeros in the answer, over whatever stood there, and all else as given.
-use cgb_vram_dma::entry;
+//! refused call leaves the paper's number and zeros in the answer, over whatever stood there, and all else as given.
 use cgb_vram_dma::{CARTRIDGE_BYTES, Cgb, Memory, OAM_BYTES, VRAM_BYTES, WRAM_BYTES};
+use cgb_vram_dma::{entry, kind as kinds};
 
 #[derive(Clone, PartialEq)]
 struct Caller {
@@ -63,7 +63,7 @@ fn call(kind: u8, address: u16, value: u8, flags: u8) -> [u8; 16] {
 
 /// A flag of 2, a mode of 3 and a spare byte of 1 are no state's (docs/STATE-LAYOUT.md).
 fn damaged() -> impl Iterator<Item = Caller> {
-    [(8, 2), (4, 3), (91, 1), (247, 1)].into_iter().map(|(at, byte)| {
+    [(8, 2), (4, 3), (91, 2), (102, 1), (247, 1)].into_iter().map(|(at, byte)| {
         let mut caller = Caller::new();
         caller.state[at] = byte;
         caller
@@ -80,15 +80,48 @@ fn a_record_of_no_call_after_an_accepted_one() {
     assert_eq!(caller.perform(kind(99), &mut answer), 6);
     assert_eq!(answer[0], 6);
     assert!(answer[1..].iter().all(|byte| *byte == 0));
-    for other in [0, 27, 99, 255] {
+    for other in [0, kinds::LAST + 1, 99, 255] {
         caller.refuses(kind(other), 6);
+    }
+}
+
+/// Arbitration answers 0, 1 or 2: a record of another answer is no call's, whether object DMA runs or rests.
+#[test]
+fn an_m_cycle_of_no_arbitration() {
+    let mut caller = Caller::new();
+    let mut answer = [0xFF; 24];
+    for page in [0, 0xC0] {
+        for other in 3..=255 {
+            caller.refuses(call(kinds::OBJECT_DMA_M_CYCLE, 0, other, 0), 6);
+        }
+        for known in 0..=2 {
+            assert_eq!(caller.clone().perform(call(kinds::OBJECT_DMA_M_CYCLE, 0, known, 0), &mut answer), 0);
+        }
+        assert_eq!(caller.perform(call(kinds::WRITE, 0xFF46, page, 1), &mut answer), 0);
+    }
+}
+
+/// Byte 18 is the byte that was moved, bytes 2 and 3 say that one was, 4 and 5 where it was read; no pair stands in the answer.
+#[test]
+fn an_m_cycle_s_answer() {
+    let mut caller = Caller::new();
+    caller.wram[1] = 0xA7;
+    let mut answer = [0xFF; 24];
+    assert_eq!(caller.perform(call(kinds::WRITE, 0xFF46, 0xC0, 1), &mut answer), 0);
+    for (arbitration, at_2, source, byte) in [(2, 0, 0, 0), (1, 2, 0xC000_u16, 0), (0, 1, 0xC001, 0xA7)] {
+        assert_eq!(caller.perform(call(kinds::OBJECT_DMA_M_CYCLE, 0, arbitration, 0), &mut answer), 0);
+        let mut expected = [0; 24];
+        expected[2] = at_2;
+        expected[4..6].copy_from_slice(&source.to_le_bytes());
+        expected[18] = byte;
+        assert_eq!(answer, expected, "{arbitration}");
     }
 }
 
 #[test]
 fn bytes_that_no_state_has_get_7_before_6() {
     for mut caller in damaged() {
-        for any in (0..=26).chain([27, 99, 255]) {
+        for any in (0..=kinds::LAST).chain([kinds::LAST + 1, 99, 255]) {
             caller.refuses(kind(any), 7);
         }
     }
@@ -108,15 +141,23 @@ fn a_performed_call_s_refusal_has_the_same_record() {
     // A WRAM bank of 8 is no run's.
     let mut unreached = caller.clone();
     unreached.state[41] = 8;
-    for any in 1..=26 {
+    for any in 1..=kinds::LAST {
         unreached.refuses(kind(any), 7);
     }
     unreached.refuses(kind(99), 6);
+    unreached.refuses(call(kinds::OBJECT_DMA_M_CYCLE, 0, 3, 0), 6);
     for which in 0..4 {
         let mut short = caller.clone();
         short.slices()[which].pop();
-        short.refuses(call(9, 0, 0, 1), 2);
+        for lent in [kinds::BUS_CALL, kinds::BUS_CALL_FROM_INSIDE, kinds::OBJECT_DMA_M_CYCLE] {
+            short.refuses(call(lent, 0, 0, 1), 2);
+        }
     }
+    caller.refuses(call(8, 0xFF46, 0, 0), 4);
+    caller.refuses(call(1, 0xFF46, 0xE0, 1), 21);
+    let mut short = caller.clone();
+    short.wram.pop();
+    short.refuses(call(1, 0xFF46, 0xE0, 1), 2);
     assert_eq!(caller.perform(call(1, 0xFF4D, 1, 1), &mut answer), 0);
     assert_eq!(caller.perform(call(4, 0, 4, 0), &mut answer), 0);
     caller.refuses(call(4, 0, 4, 0), 11);

@@ -1,7 +1,7 @@
 //! The state's fields, as the wrapper reads and prints them, held to docs/STATE-LAYOUT.md and to what the library makes
 //! of the same bytes.
 use cgb_vram_dma::state::TransferMode;
-use cgb_vram_dma::{Cgb, Memory, Status, entry};
+use cgb_vram_dma::{Cgb, Memory, ObjectDma, Status, entry};
 
 const LAYOUT: &str = include_str!("../../docs/STATE-LAYOUT.md");
 
@@ -127,12 +127,14 @@ fn the_fields_are_what_the_library_answers() {
     let mut asked = 0;
     for _ in 0..2_000 {
         let mut bytes = state(&rows, &mut random);
-        // Within the six tests of refusal 7, but for no byte left in a mode other than Idle.
+        // Within the tests of refusal 7, but for no byte left in a mode other than Idle.
         bytes[7] %= 3;
         bytes[9] %= 17;
         bytes[6] %= 8;
         bytes[41] %= 8;
         bytes[80] %= 2;
+        bytes[92] %= 0xE0;
+        bytes[93] %= 161;
         let cgb = Cgb::from_bytes(bytes);
         let state = cgb.state();
         let Ok(tally) = cgb.tally() else {
@@ -163,6 +165,10 @@ fn the_fields_are_what_the_library_answers() {
         assert_eq!(cgb.speed_switch_in_progress(), Ok(state.speed_switch_blackout > 0));
         assert_eq!(cgb.double_speed(), Ok(state.double_speed));
         assert_eq!(cgb.svbk_register(), Ok(state.svbk));
+        // "from the write until 160 are counted"
+        let runs = state.object_dma.running && state.object_dma.counted < 160;
+        let object_dma = ObjectDma { runs, counted: state.object_dma.counted, page: state.object_dma.page };
+        assert_eq!(cgb.object_dma(), Ok(object_dma));
     }
     assert!(asked > 1_000);
 }
@@ -234,7 +240,7 @@ fn flat(text: &str) -> String {
 fn bytes_of_no_state_are_among_the_changes() {
     let before = Cgb::power_on(false);
     assert_eq!(before.changes_since(&before).to_string(), "");
-    for (at, byte) in [(8, 2), (91, 1), (247, 255), (50, 1)] {
+    for (at, byte) in [(8, 2), (91, 2), (102, 1), (247, 255), (50, 1)] {
         let mut bytes = *before.bytes();
         bytes[at] = byte;
         let after = Cgb::from_bytes(bytes);
