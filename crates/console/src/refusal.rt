@@ -29,7 +29,8 @@ pub const GRANTED: u8 = 14;
 pub const PAGE: u8 = 21;
 
 impl Cgb {
-    // Refusal 7: one of its eight tests holds. In the papers' order, which is also the fastest.
+    // Refusal 7: one of its eight tests holds. In the papers' order, but for the last of document 01: the four in front of it are of
+    // fields that a fall leaves, and where they stand together falls in a row ask them once.
     pub fn unreached(self) -> bool
         ensures { λ r. ⌜ r ≡ unreached self ⌝ }
     {
@@ -41,8 +42,8 @@ impl Cgb {
             | (c.remaining > 2048)
             | (self.svbk > 7)
             | (self.vram.selected > 1)
-            | ((c.remaining == 0) & !idle)
             | (self.object_dma.counted > 160)
             | (self.object_dma.page > 0xDF)
+            | ((c.remaining == 0) & !idle)
     }
 }
