@@ -2,3 +2,4 @@ pub mod Tests
 pub mod Choice
 pub mod SmallSteps
 pub mod Digits
+pub mod Same

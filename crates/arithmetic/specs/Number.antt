@@ -1,8 +1,8 @@
--- Numbers of several bytes, the lowest first, and what stands at an offset.
+-- Numbers of several bytes, the lowest first; what stands at an offset; whether two runs of bytes are the same.
 use Prim.Native.Nat.{ℕ, zero, suc, _+_, _*_, _/_, _%_}
-use mathlib.Core.Bool.{Bool}
+use mathlib.Core.Bool.{Bool, true, false, _&&_}
 use mathlib.Core.List.{List, [], _∷_}
-use lib.ListN.{getD}
+use lib.ListN.{getD, drop}
 use lib.Dec.{eqb}
 use Rattle.arithmetic.specs.declared.number.Eight.{Eight}
 
@@ -48,3 +48,14 @@ bytesAt b k (suc n) = byteAt b k ∷ bytesAt b (suc k) n
 
 abbrev pub numberAt : List ℕ → ℕ → ℕ → ℕ
 numberAt b k n = number (bytesAt b k n)
+
+-- `Same` in proofs/ shows it true exactly where they are equal
+abbrev pub sameBytes : List ℕ → List ℕ → Bool
+sameBytes [] [] = true
+sameBytes [] (y ∷ ys) = false
+sameBytes (x ∷ xs) [] = false
+sameBytes (x ∷ xs) (y ∷ ys) = eqb x y && sameBytes xs ys
+
+-- the same of the bytes from n on
+abbrev pub sameFrom : ℕ → List ℕ → List ℕ → Bool
+sameFrom n a b = sameBytes (drop n a) (drop n b)

@@ -6,6 +6,5 @@ pub mod BlockBack
 pub mod ArbBack
 pub mod OamBack
 pub mod ObjectBack
-pub mod Equal
 pub mod State
 pub mod RoundTrip

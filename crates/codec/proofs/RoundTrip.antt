@@ -1,8 +1,9 @@
 -- The round trip both ways (specs, `RoundTrip`). Assumes nothing.
 use mathlib.Core.Path.{ap, _∙_}
 use Rattle.codec.proofs.State.{length-is, state-back, state-within}
-use Rattle.codec.proofs.Equal.{same-self, same-equal}
-use Rattle.codec.specs.Codec.{encodeOf, sameBytes, stateOf, decodeOf}
+use Rattle.arithmetic.proofs.Same.{same-self, same-equal}
+use Rattle.arithmetic.specs.Number.{sameBytes}
+use Rattle.codec.specs.Codec.{encodeOf, stateOf, decodeOf}
 use Rattle.codec.specs.RoundTrip.{RoundTrip}
 use Rattle.console.specs.declared.Cgb.{Cgb}
 

@@ -1,16 +1,13 @@
--- Runs of bytes, stored or compared one by one: what a loop has done and what is left of it. Assumes nothing.
+-- Runs of bytes, stored one by one: what a loop has done and what is left of it. Assumes nothing.
 use Prim.Native.Nat.{ℕ, zero, suc, _+_, _<_, _≤_}
 use native.Mathlib.Nat.{add-zero, add-suc, suc-add, le-of-suc-le-suc, not-suc-le-zero}
 use native.Mathlib.Numerals.{add-one}
 use native.Mathlib.Omega.{arith}
 use mathlib.Core.Path.{_≡_, refl, sym, ap, _∙_}
 use mathlib.Core.List.{List, _++_, append-nil}
-use mathlib.Core.Bool.{Bool, _&&_, and-assoc, and-true}
 use lib.ListN.{length, getD, set, drop, drop-of-length-le}
 use lib.Seq.{sets, sets-eq, drop-cons, drop-length}
-use lib.Dec.{eqb}
 use Rattle.arithmetic.specs.Number.{bytesAt}
-use Rattle.codec.specs.Codec.{sameFrom}
 
 -- the bytes p stored from offset at on into l₀; l is l₀ with the first i stored, and the next goes to offset k
 module _ (l₀ l p : List ℕ) (at k i : ℕ) (left : sets l₀ at p ≡ sets l k (drop i p)) where
@@ -25,18 +22,6 @@ pub stored-over : (l p : List ℕ) → length p ≡ length l → sets l 0 p ≡ 
 stored-over l p e =
     let h : 0 + length p ≡ length l = omega arith in
     sets-eq p l 0 (omega arith) ∙ ap (λ (n : ℕ). p ++ drop n l) h ∙ ap (λ (z : List ℕ). p ++ z) (drop-length l) ∙ append-nil p
-
--- a and b are compared; so far says whether the bytes up to i agree, and whole what they come to with the rest
-pub same-more :
-    (a b : List ℕ) (whole so-far : Bool) (i : ℕ) →
-    whole ≡ (so-far && sameFrom i a b) →
-    i < length a → i < length b → whole ≡ ((so-far && eqb (getD a i 0) (getD b i 0)) && sameFrom (i + 1) a b)
-same-more a b whole so-far i left h k = left ∙ rw (add-one i, drop-cons a i 0 h, drop-cons b i 0 k, and-assoc)
-
-pub same-all :
-    (a b : List ℕ) (whole so-far : Bool) (i : ℕ) →
-    whole ≡ (so-far && sameFrom i a b) → length a ≤ i → length b ≤ i → so-far ≡ whole
-same-all a b whole so-far i left h k = sym (left ∙ rw (drop-of-length-le a h, drop-of-length-le b k, and-true))
 
 -- the bytes from an offset on, and how many they are
 pub part-byte : (b : List ℕ) (at n i : ℕ) → i < n → getD (bytesAt b at n) i 0 ≡ getD b (at + i) 0

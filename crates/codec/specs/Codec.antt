@@ -1,10 +1,8 @@
 -- The state as 248 bytes, and back.
 use Prim.Native.Nat.{ℕ}
-use mathlib.Core.Bool.{Bool, true, false, _&&_}
 use mathlib.Core.List.{List, [], _∷_, _++_}
-use lib.ListN.{replicate, drop}
-use lib.Dec.{eqb}
-use Rattle.arithmetic.specs.Number.{byteAt, bytesAt, numberAt, flagAt}
+use lib.ListN.{replicate}
+use Rattle.arithmetic.specs.Number.{byteAt, bytesAt, numberAt, flagAt, sameBytes}
 use Rattle.codec.specs.Cursor.{cursorBytes, cursorOf}
 use Rattle.codec.specs.Block.{blockBytes, blockOf}
 use Rattle.codec.specs.Arb.{arbBytes, arbOf}
@@ -59,16 +57,6 @@ stateOf b =
       «console_state» = consoleOf b;
       «object_dma» = objectOf b;
     }
-
-abbrev pub sameBytes : List ℕ → List ℕ → Bool
-sameBytes [] [] = true
-sameBytes [] (y ∷ ys) = false
-sameBytes (x ∷ xs) [] = false
-sameBytes (x ∷ xs) (y ∷ ys) = eqb x y && sameBytes xs ys
-
--- the same of the bytes from n on
-abbrev pub sameFrom : ℕ → List ℕ → List ℕ → Bool
-sameFrom n a b = sameBytes (drop n a) (drop n b)
 
 -- valid: the bytes are canonical, exactly what the state that they read as is written as
 unfoldable pub decodeOf : List ℕ → Decoded

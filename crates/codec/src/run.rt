@@ -4,7 +4,7 @@ ghost use Prim.Native.Nat.{_+_, _≤_};
 ghost use lib.ListN.{length};
 ghost use lib.Seq.{sets};
 ghost use mathlib.Core.Bool.{_&&_};
-ghost use Rattle.codec.specs.Codec.{sameBytes, sameFrom};
+ghost use Rattle.arithmetic.specs.Number.{sameBytes, sameFrom};
 ghost use Rattle.codec.specs.Inner.{eightAt};
 use arithmetic::number::Eight;
 

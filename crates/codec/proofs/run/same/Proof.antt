@@ -1,7 +1,7 @@
 -- `same` meets its contract: each run hands the comparison on to the next, and nothing is left behind the last. Assumes nothing.
 use native.Mathlib.Omega.{arith}
 use mathlib.Core.Path.{_∙_}
-use Rattle.codec.proofs.Runs.{same-all}
+use Rattle.arithmetic.proofs.Same.{same-all}
 use Rattle.codec.proofs.run.same.Statement.{statement}
 use Rattle.codec.proofs.run.same.Tie as tie
 

@@ -3,8 +3,8 @@ use Prim.Native.Nat.{_-_, _≤_}
 use native.Mathlib.Omega.{arith}
 use mathlib.Core.Path.{_≡_, refl, ap, _∙_}
 use mathlib.Core.Bool.{_&&_}
-use Rattle.codec.specs.Codec.{sameFrom}
-use Rattle.codec.proofs.Runs.{same-more}
+use Rattle.arithmetic.specs.Number.{sameFrom}
+use Rattle.arithmetic.proofs.Same.{same-more}
 use Rattle.codec.proofs.run.same_between.Statement.{statement}
 use Rattle.codec.proofs.run.same_between.Tie as tie
 
