@@ -4,7 +4,7 @@
 ghost use Prim.Native.Nat.{_-_, _<_, _≤_, _*_, _/_};
 ghost use mathlib.Core.Bool.{cond};
 ghost use mathlib.Core.Path.{_≡_};
-ghost use lib.ListN.{length, take, drop};
+ghost use lib.ListN.{length};
 use console::Cgb;
 use libc::STDIN_FILENO;
 use libc::STDOUT_FILENO;
@@ -30,12 +30,6 @@ struct Turned {
     turns: u64,
 }
 
-fn flush(out: &[u8], at: usize) {
-    if at <= out.len() {
-        io::write_all(STDOUT_FILENO, &out[0..at]);
-    }
-}
-
 // The records of one part of the input, with their lines written.
 fn feed(r: Replay, part: &[u8], out: &mut [u8], wram: &mut [u8]) -> Replay
     requires { ⌜ length (now part) ≤ 65536 ⌝ }
@@ -50,28 +44,16 @@ fn feed(r: Replay, part: &[u8], out: &mut [u8], wram: &mut [u8]) -> Replay
         at = line::put_line(out, at, number, stepped.line);
         number = std::num::wrapping_add_u64(number, 1);
         if at > NEARLY_FULL {
-            flush(out, at);
+            stream::flush(STDOUT_FILENO, out, at);
             at = 0;
         }
         i += 16;
     }
-    flush(out, at);
+    stream::flush(STDOUT_FILENO, out, at);
     Replay {
         state: state,
         number: number,
     }
-}
-
-// One read, behind the bytes that wait at the front: how many bytes are there then. If no more than waited, the input ended or
-// cannot be read.
-fn fill(buf: &mut [u8], waiting: usize) -> usize
-    requires { ⌜ waiting < length (now buf) ⌝ }
-    ensures { λ r. ⌜ (waiting ≤ r) × (r ≤ length (now (buf .exit))) ⌝ }
-    ensures { λ _. ⌜ take waiting (now (buf .exit)) ≡ take waiting (now (buf .entry)) ⌝ }
-{
-    let room = &mut buf[waiting..];
-    let got = libc::read(STDIN_FILENO, room);
-    waiting + io::count(got, room)
 }
 
 // How many of the n bytes are performed now: the whole records, and at the input's end what is left over as well.
@@ -80,29 +62,6 @@ fn due(n: usize, more: bool) -> usize
     ensures { λ r. ⌜ r ≡ cond more (n / 16 * 16) n ⌝ }
 {
     if more { n / 16 * 16 } else { n }
-}
-
-// The bytes from one place up to another moved to the front: how many they are.
-fn to_front(buf: &mut [u8], from: usize, end: usize) -> usize
-    requires { ⌜ (from ≤ end) × (end ≤ length (now buf)) ⌝ }
-    ensures { λ r. ⌜ r ≡ end - from ⌝ }
-    ensures { λ r. ⌜ take r (now (buf .exit)) ≡ take r (drop from (now (buf .entry))) ⌝ }
-{
-    let n = end - from;
-    let mut i: usize = 0;
-    while i < n {
-        buf[i] = buf[from + i];
-        i += 1;
-    }
-    n
-}
-
-// How many reads may still come after this one.
-fn fewer(turns: u64, more: bool) -> u64
-    requires { ⌜ 0 < turns ⌝ }
-    ensures { λ r. ⌜ r < turns ⌝ }
-{
-    if more { turns - 1 } else { 0 }
 }
 
 // One turn: what waits goes to the front, and what one read brings is performed, or at the end of the input what waited.
@@ -120,11 +79,12 @@ fn turn(
     ensures { λ r. ⌜ (r .from ≤ r .stop) × (r .stop ≤ length (now (buf .exit))) × (r .stop - r .from < 16) ⌝ }
     ensures { λ r. ⌜ r .turns < turns ⌝ }
 {
-    let waiting = to_front(buf, from, stop);
-    let n = fill(buf, waiting);
+    let waiting = stream::to_front(buf, from, stop);
+    let filled = stream::fill(STDIN_FILENO, buf, waiting);
+    let n = filled.bytes;
     let more = n > waiting;
     let end = due(n, more);
-    let later = fewer(turns, more);
+    let later = stream::fewer(turns, more);
     let replay = feed(r, &buf[0..end], out, wram);
     Turned {
         replay: replay,

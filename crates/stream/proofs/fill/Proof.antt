@@ -3,8 +3,8 @@ use borrow.Author.Needs.{needs}
 use borrow.Rule.Slice.PartMut.{take-put}
 use Prim.Native.Nat.{_-_}
 use lib.ListN.{length}
-use Rattle.replay.proofs.fill.Statement.{statement}
-use Rattle.replay.proofs.fill.Tie as tie
+use Rattle.stream.proofs.fill.Statement.{statement}
+use Rattle.stream.proofs.fill.Tie as tie
 
 sub-room : tie.Need-sub-room
 sub-room c = search needs
@@ -21,8 +21,8 @@ read-requires c κs = search needs
 count-requires : tie.Need-count-requires
 count-requires c κs = search needs
 
-add-result : tie.Need-add-result
-add-result c = search needs
+add-bytes : tie.Need-add-bytes
+add-bytes c = search needs
 
 same-length : tie.Need-same-length
 same-length c = search needs
@@ -42,6 +42,6 @@ fill-spec =
     part-room-end
     read-requires
     count-requires
-    add-result
+    add-bytes
     same-length
     returns)

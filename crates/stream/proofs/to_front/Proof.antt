@@ -4,9 +4,9 @@ use Prim.Native.Nat.{_+_, _-_, _≤_}
 use mathlib.Core.Path.{_≡_, refl}
 use native.Mathlib.Omega.{arith}
 use lib.ListN.{length}
-use Rattle.replay.proofs.Front.{Moved, none-moved, one-more}
-use Rattle.replay.proofs.to_front.Statement.{statement}
-use Rattle.replay.proofs.to_front.Tie as tie
+use Rattle.stream.proofs.Front.{Moved, none-moved, one-more}
+use Rattle.stream.proofs.to_front.Statement.{statement}
+use Rattle.stream.proofs.to_front.Tie as tie
 
 abbrev Inv-loop : tie.InvT-loop
 Inv-loop buf₀ from end n i₀ buf i = (i ≤ n) × (length buf ≡ length buf₀) × Moved buf₀ from i buf
