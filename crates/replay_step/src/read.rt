@@ -20,8 +20,8 @@ fn none() -> Record
     }
 }
 
-// The first 16 bytes.
-fn sixteen(bytes: &[u8]) -> [u8; 16]
+// The first 16 bytes, 0 where there are fewer.
+pub fn sixteen(bytes: &[u8]) -> [u8; 16]
     ensures { λ r. ⌜ r ≡ bytesAt (now (bytes .entry)) 0 16 ⌝ }
 {
     [

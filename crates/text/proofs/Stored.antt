@@ -43,6 +43,9 @@ joined : (l : List ℕ) (at : ℕ) (xs ys : List ℕ) → Joined l at xs ys
 joined l at [] ys = rw (past-none (length l) at)
 joined l at (x ∷ xs) ys = join-step l at x xs ys (joined (set l at x) (suc at) xs ys)
 
+pub nothing : (l : List ℕ) (at : ℕ) → Put l at [] at l
+nothing l at = record { place = sym (past-none (length l) at); bytes = refl }
+
 -- a text, and then another behind it
 pub then :
     {l : List ℕ} {at : ℕ} {xs : List ℕ} {r : ℕ} {m ys : List ℕ} {s : ℕ} {k : List ℕ} → Put l at xs r m → Put m r ys s k →

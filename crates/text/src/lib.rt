@@ -1,4 +1,4 @@
-// Text in a lent buffer: a character, a decimal number, a byte in two capitals. Each function stores what fits from a place on,
+// Text in a lent buffer: a character, characters, a decimal number, a byte in two capitals. Each function stores what fits from a place on,
 // so that it asks nothing of its caller, and answers the place past what it stored.
 ghost use Prim.Native.Nat.{_<_};
 ghost use mathlib.Core.List.{[], _∷_};
@@ -12,6 +12,19 @@ pub fn put(out: &mut [u8], at: usize, character: u8) -> usize
         return at + 1;
     }
     at
+}
+
+// Characters that are there already, one behind the other.
+pub fn put_text(out: &mut [u8], at: usize, text: &[u8]) -> usize
+    ensures { λ r. ⌜ Put (now (out .entry)) at (now (text .entry)) r (now (out .exit)) ⌝ }
+{
+    let mut to = at;
+    let mut i: usize = 0;
+    while i < text.len() {
+        to = put(out, to, text[i]);
+        i += 1;
+    }
+    to
 }
 
 // The last decimal digit.

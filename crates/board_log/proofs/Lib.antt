@@ -1,0 +1,7 @@
+pub mod LogRecord
+pub mod LineSteps
+pub mod Cut
+pub mod Found
+pub mod OwnLog
+pub mod JudgesInParts
+pub mod LogsInParts

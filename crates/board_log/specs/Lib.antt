@@ -1,0 +1,7 @@
+pub mod Records
+pub mod LogRecord
+pub mod OwnLog
+pub mod LogsInParts
+pub mod Judging
+pub mod Verdict
+pub mod JudgesInParts
