@@ -1,0 +1,96 @@
+-- A turn shows what waited and what came, and keeps what was not taken (specs, `Turns`). Assumes nothing.
+use Prim.Native.Nat.{ℕ, zero, suc, _+_, _-_, _*_, _≤_}
+use mathlib.Core.Path.{_≡_, refl, sym, ap, subst, _∙_}
+use mathlib.Core.Bool.{Bool}
+use mathlib.Core.List.{List, [], _∷_, _++_}
+use native.Mathlib.Nat.{le-of-suc-le-suc, not-suc-le-zero}
+use native.Mathlib.Omega.{arith}
+use lib.ListN.{length, take, drop, length-take, take-append-drop}
+use lib.Seq.{take-take, take-nil, drop-drop}
+use Rattle.board_log.specs.Judging.{Feeds}
+use Rattle.board_log.specs.declared.judging.Judge.{Judge}
+use Rattle.board_log.specs.declared.judging.Fed.{Fed}
+use Rattle.board_log.proofs.Cut.{taken-both}
+use Rattle.judge.specs.Turn.{inBuffer, Turns}
+use Rattle.judge.specs.declared.Waiting.{Waiting}
+use Rattle.judge.specs.declared.Turned.{Turned}
+
+fewer : (n m : ℕ) (l : List ℕ) → n ≡ m → take n l ≡ take m l
+fewer n m l e = ap (λ (k : ℕ). take k l) e
+
+drop-take : (t n : ℕ) (l : List ℕ) → t ≤ n → drop t (take n l) ≡ take (n - t) (drop t l)
+drop-take zero n l h = fewer n (n - 0) l (omega arith)
+drop-take (suc t) zero l h = absurd (not-suc-le-zero h)
+drop-take (suc t) (suc n) [] h = sym (take-nil (suc n - suc t))
+drop-take (suc t) (suc n) (x ∷ l) h = drop-take t n l (le-of-suc-le-suc h) ∙ fewer (n - t) (suc n - suc t) (drop t l) (omega arith)
+
+-- what waits once t bytes more of it are taken
+pub rest : (buffer : List ℕ) (from stop t : ℕ) → t ≤ stop - from →
+    take (stop - (from + t)) (drop (from + t) buffer) ≡ drop t (take (stop - from) (drop from buffer))
+rest buffer from stop t h =
+    let count : stop - (from + t) ≡ (stop - from) - t = omega arith in
+    fewer (stop - (from + t)) ((stop - from) - t) (drop (from + t) buffer) count
+    ∙ ap (λ (l : List ℕ). take ((stop - from) - t) l) (sym (drop-drop t from buffer))
+    ∙ sym (drop-take t (stop - from) (drop from buffer) h)
+
+-- one file in a turn: what waited in the buffer, and the bytes that are shown of it then
+pub record OneFile (before : List ℕ) (w : Waiting) (after : List ℕ) (from stop : ℕ) : Type 0 where
+  pub most : w .stop - w .from ≤ stop - from
+  pub still : take (w .stop - w .from) (drop from after) ≡ take (w .stop - w .from) (drop (w .from) before)
+
+module _ (before : List ℕ) (w : Waiting) (after : List ℕ) (from stop : ℕ) (f : OneFile before w after from stop) where
+  abbrev n : ℕ
+  n = w .stop - w .from
+
+  abbrev shown : List ℕ
+  shown = take (stop - from) (drop from after)
+
+  pub behind : List ℕ
+  behind = drop n shown
+
+  pub waited-first : inBuffer before w ++ behind ≡ shown
+  unfolding behind
+  waited-first =
+      ap (λ (l : List ℕ). l ++ drop n shown) (sym (f .still) ∙ sym (take-take n (stop - from) (drop from after) (f .most)))
+      ∙ take-append-drop n shown
+
+-- no more is taken than is shown
+pub taken-within :
+    (j : Judge) (wram script log : List ℕ) (a b : ℕ) (fed : Fed) (wramAfter : List ℕ) →
+    Feeds j wram (take a script) (take b log) fed wramAfter → (fed .taken ≤ a) × (fed .taken ≤ b)
+taken-within j wram script log a b fed wramAfter f =
+    let taken = taken-both (take a script) (take b log) in (
+      omega (arith, f .taken, taken .0, length-take a script),
+      omega (arith, f .taken, taken .1, length-take b log),
+    )
+
+module _
+    (j : Judge) (wram script log : List ℕ) (sw lw : Waiting) (scriptAfter logAfter wramAfter : List ℕ) (sf ss lf ls : ℕ) (fed : Fed)
+    (s : OneFile script sw scriptAfter sf ss) (l : OneFile log lw logAfter lf ls)
+    (f : Feeds j wram (take (ss - sf) (drop sf scriptAfter)) (take (ls - lf) (drop lf logAfter)) fed wramAfter) where
+  pub turned :
+      (turns : ℕ) (failed : Bool) →
+      Turns j wram (inBuffer script sw) (inBuffer log lw)
+      (record {
+        judge = fed .judge;
+        script = record { from = sf + fed .taken; stop = ss };
+        log = record { from = lf + fed .taken; stop = ls };
+        turns = turns;
+        failed = failed;
+      })
+      scriptAfter logAfter wramAfter
+  turned turns failed =
+      let first = waited-first script sw scriptAfter sf ss s in
+      let firstLog = waited-first log lw logAfter lf ls l in
+      let within = taken-within j wram (drop sf scriptAfter) (drop lf logAfter) (ss - sf) (ls - lf) fed wramAfter f in
+      record {
+        came = behind script sw scriptAfter sf ss s;
+        cameLog = behind log lw logAfter lf ls l;
+        fed = fed;
+        feeds =
+            subst (λ (x : List ℕ). Feeds j wram x (inBuffer log lw ++ behind log lw logAfter lf ls l) fed wramAfter) (sym first)
+            (subst (λ (x : List ℕ). Feeds j wram (take (ss - sf) (drop sf scriptAfter)) x fed wramAfter) (sym firstLog) f);
+        judge = refl;
+        left = rest scriptAfter sf ss (fed .taken) (within .0) ∙ ap (λ (x : List ℕ). drop (fed .taken) x) (sym first);
+        leftLog = rest logAfter lf ls (fed .taken) (within .1) ∙ ap (λ (x : List ℕ). drop (fed .taken) x) (sym firstLog);
+      }

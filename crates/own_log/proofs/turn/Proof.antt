@@ -1,0 +1,76 @@
+-- `turn` stays inside its slices, and leaves less than a record. Assumes nothing.
+use borrow.Author.Needs.{needs}
+use native.Mathlib.Omega.{arith}
+use Rattle.own_log.proofs.Rest.{rest}
+use Rattle.own_log.proofs.turn.Statement.{statement}
+use Rattle.own_log.proofs.turn.Tie as tie
+
+fill-requires : tie.Need-fill-requires
+fill-requires c κs = search needs
+
+sub-put-log : tie.Need-sub-put-log
+sub-put-log c = search needs
+
+part-put-log-start : tie.Need-part-put-log-start
+part-put-log-start c = search needs
+
+part-put-log-end : tie.Need-part-put-log-end
+part-put-log-end c = search needs
+
+put-log-requires : tie.Need-put-log-requires
+put-log-requires c κs = search needs
+
+flush-requires : tie.Need-flush-requires
+flush-requires c κs = search needs
+
+fewer-requires : tie.Need-fewer-requires
+fewer-requires c κs = search needs
+
+to-front-requires : tie.Need-to-front-requires
+to-front-requires c κs =
+    let log = c .before .before .before .before .before .before .before .before .before in
+    let filled = log .before .before .before .before .before .before .before in
+    let a = filled .before .before .before .before .before in
+    let logged = log .put-log in
+    let read = filled .fill in
+    let taken = rest _ _ (read .last .1 .0) (a .args .out .now) (read .result .bytes) (logged .result) _ _ (logged .ensures) (read .ensures .0 .1)
+    (omega (arith, read .kept .1 .0, a .pre)) in
+    (taken .0, read .ensures .0 .1)
+
+same-length : tie.Need-same-length
+same-length c = search needs
+
+same-length-2 : tie.Need-same-length-2
+same-length-2 c = search needs
+
+same-length-3 : tie.Need-same-length-3
+same-length-3 c = search needs
+
+returns : tie.Need-returns
+returns c =
+    let front = c .before .before .to-front in
+    let log = c .before .before .before .before .before .before .before .before .before .before .before .before in
+    let filled = log .before .before .before .before .before .before .before in
+    let a = filled .before .before .before .before .before in
+    let logged = log .put-log in
+    let read = filled .fill in
+    let taken = rest _ _ (read .last .1 .0) (a .args .out .now) (read .result .bytes) (logged .result) _ _ (logged .ensures) (read .ensures .0 .1)
+    (omega (arith, read .kept .1 .0, a .pre)) in
+    (omega (arith, front .ensures .0, taken .1), c .before .before .before .before .fewer .ensures)
+
+pub turn-spec : {M : Type 1} → statement M
+turn-spec =
+    tie.close
+    (tie.spec
+    fill-requires
+    sub-put-log
+    part-put-log-start
+    part-put-log-end
+    put-log-requires
+    flush-requires
+    fewer-requires
+    to-front-requires
+    same-length
+    same-length-2
+    same-length-3
+    returns)
