@@ -1,6 +1,6 @@
 //! Document 01's cases, run through the original: each number of the paper is asserted of the original itself,
 //! and every call of every case is written as a vector, so that the port can be held beside it. Object DMA's lists, which the aimed
-//! vectors have, are run too.
+//! vectors have, are run too, and section 6's six records.
 use std::io::Write;
 
 use crate::answer::Answer;
@@ -188,6 +188,8 @@ fn k9(c: &mut Case) {
 }
 
 pub fn write(out: &mut dyn Write) {
+    crate::six_records::check();
+    eprintln!("section 6: the original gives the paper's lines, and the log and verdicts that follow from them");
     let mut oracle = Oracle::new();
     let mut run = |compat: bool, case: &mut dyn FnMut(&mut Case)| {
         let state = oracle.power_on(compat);

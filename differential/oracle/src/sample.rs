@@ -1,7 +1,9 @@
-//! The script that is stored as crates/replay/stdin: document 01's six records, then what these leave out. But for these six,
-//! the long repetitions and the calls at the end, each record has junk in every bit that its kind ignores.
+//! The scripts that are stored as crates/replay/stdin and crates/judge/data/script: document 01's six records, then what these
+//! leave out. But for these six, the long repetitions and the calls at random, each record has junk in every bit that its kind
+//! ignores.
 use std::io::Write;
 
+use crate::fill::BUFFER;
 use crate::kind;
 use crate::object_dma::REGISTER;
 use crate::random::Random;
@@ -9,7 +11,13 @@ use crate::vectors;
 
 type Record = [u8; 16];
 
+/// Of the replay's script, in front of its short record.
 const RECORDS: usize = 10_200;
+
+/// Of the judge's: somewhat more than a buffer.
+const JUDGED_RECORDS: usize = 4_200;
+
+const BUFFER_RECORDS: usize = BUFFER / 16;
 
 /// The bits that a record's kind ignores (document 01, section 6); a write to FF46 has an edge, and ignores the LCD (document 02).
 fn ignored(record: &Record) -> Record {
@@ -80,6 +88,10 @@ struct Script {
 }
 
 impl Script {
+    fn new() -> Self {
+        Self { records: Vec::new(), random: Random::new(6) }
+    }
+
     fn put(&mut self, records: &[Record]) {
         self.records.extend(records);
     }
@@ -159,9 +171,9 @@ impl Script {
         self.put_junked(&[blackout(4), armed, switch(1, 0), blackout(1), switch(1, 0), blackout(0x0100_0000)]);
     }
 
-    /// The lengths of K7: one edge short the next switch gets 11, then none is left.
-    fn lengths(&mut self) {
-        for edges in [131_077, 262_144, 131_079, 262_144, 131_079] {
+    /// Blackouts of these lengths, as K7's: one edge short the next switch gets 11, then none is left.
+    fn lengths(&mut self, lengths: &[u32]) {
+        for edges in lengths {
             self.put_junked(&[write(0xFF4D, 0x01), switch(3, 0), write(0xFF4D, 0x01), switch(3, 0)]);
             self.put_junked(&[blackout(edges - 1), switch(3, 0), blackout(1)]);
         }
@@ -192,11 +204,66 @@ impl Script {
         self.put_junked(&[write(0xFF4D, 0x01), switch(4, 0), start(0x12, 2), start(0xF0, 3), blackout(u32::MAX)]);
     }
 
-    /// Calls as the other runs make them, up to the script's length.
-    fn rest(&mut self) {
+    /// A General transfer, whatever went before: where HBlank is armed the first write only disarms. A fall's quota is taken
+    /// whole, at either speed.
+    fn general(&mut self, length: u8, rounds: usize) {
+        self.put_junked(&[write(0xFF55, length); 2]);
+        for _ in 0..rounds {
+            self.put_junked(&[fall(3, 0), plain(kind::NEXT_PAIR), plain(kind::NEXT_PAIR)]);
+        }
+    }
+
+    /// Past the blinds and the tenure of 36 that a halt or a switch leaves: the next entry pends.
+    fn settle(&mut self) {
+        self.put_junked(&[fall(3, 0); 40]);
+    }
+
+    /// From double speed down; then every refusal of a switch and both ways to a free pair: a cut whose byte a next pair takes, and one
+    /// whose byte is drained. Between them the way down, which a ready block bars (13) until its last pair.
+    fn cuts(&mut self) {
+        let (pair, drain, armed) = (plain(kind::NEXT_PAIR), plain(kind::ESCAPE_DRAIN), write(0xFF4D, 0x01));
+        let over = blackout(u32::MAX);
+        self.put_junked(&[armed, switch(4, 0), over]);
+        self.settle();
+        self.half_a_block(0x81);
+        self.put_junked(&[switch(0, 0), armed, switch(0, 1), switch(5, 0), switch(255, 3), switch(0, 0), switch(0, 0)]);
+        self.put_junked(&[fall(3, 0), pair, pair, over]);
+        self.settle();
+        self.half_a_block(0x82);
+        self.put_junked(&[armed, switch(0, 0)]);
+        for _ in 0..16 {
+            self.put_junked(&[fall(3, 0), pair]);
+        }
+        self.put_junked(&[switch(0, 0), over]);
+        self.settle();
+        self.half_a_block(0x83);
+        self.put_junked(&[armed, switch(2, 2), fall(3, 0), drain, drain, over]);
+    }
+
+    /// Some pairs at each page of VRAM, from as many pages of the source and with as many lengths; the destination's upper bits vary.
+    fn pages(&mut self) {
+        for k in 0..32u8 {
+            self.put_junked(&[write(0xFF51, k * 8 + 3), write(0xFF52, k * 7)]);
+            self.put_junked(&[write(0xFF53, k.wrapping_mul(37)), write(0xFF54, k.wrapping_mul(29))]);
+            self.general(k * 4, 3);
+        }
+    }
+
+    /// Addresses that wrap: a source that leaves FFFFh beside K5's destination, which leaves 9FFFh, and beside K4's, which leaves
+    /// FFFFh and cuts its transfer off.
+    fn wraps(&mut self) {
+        for (destination_high, rounds) in [(0x9F, 32), (0xFF, 17)] {
+            self.put_junked(&[write(0xFF51, 0xFF), write(0xFF52, 0xF0)]);
+            self.put_junked(&[write(0xFF53, destination_high), write(0xFF54, 0xF0)]);
+            self.general(0x01, rounds);
+        }
+    }
+
+    /// Calls as the other runs make them, until there are so many records.
+    fn random_until(&mut self, count: usize) {
         let kinds: Vec<u8> = (kind::WRITE..=kind::BLACKOUT_DRAIN).collect();
         let mut drive = vectors::Drive::new();
-        while self.records.len() < RECORDS {
+        while self.records.len() < count {
             let step = self.records.len() as u64;
             let record = drive.next(&mut self.random, &kinds, step).record;
             self.put(&[record]);
@@ -205,17 +272,35 @@ impl Script {
 }
 
 /// The last record is 15 bytes of a write that would leave 16.
-pub fn write_to(output: &mut impl Write) -> std::io::Result<()> {
-    let mut script = Script { records: Vec::new(), random: Random::new(6) };
+pub fn write_replayed(output: &mut impl Write) -> std::io::Result<()> {
+    let mut script = Script::new();
     script.paper();
     script.kinds();
     script.longest();
     script.granted_full();
     script.flags();
     script.switches();
-    script.lengths();
+    script.lengths(&[131_077, 262_144, 131_079, 262_144, 131_079]);
     script.starts();
-    script.rest();
+    script.random_until(RECORDS);
     output.write_all(&script.records.concat())?;
     output.write_all(&write(0xFF55, 0x00)[..15])
+}
+
+/// Whole records alone. Without the longest transfer, but with pairs all over the map; a transfer runs across a buffer's end.
+pub fn write_judged(output: &mut impl Write) -> std::io::Result<()> {
+    let mut script = Script::new();
+    script.paper();
+    script.kinds();
+    script.granted_full();
+    script.flags();
+    script.lengths(&[131_077, 262_144, 131_079]);
+    script.cuts();
+    script.starts();
+    script.pages();
+    script.wraps();
+    script.random_until(BUFFER_RECORDS - 30);
+    script.general(0x7F, 20);
+    script.random_until(JUDGED_RECORDS);
+    output.write_all(&script.records.concat())
 }
