@@ -80,3 +80,10 @@ pub fn script(steps: &[u8], frames: usize) -> Vec<u8> {
     }
     bytes
 }
+
+/// A script of whole records at random, most of them as a program would give them.
+pub fn random_script(count: u64) -> Vec<u8> {
+    let mut bytes = Vec::new();
+    oracle::script::write(20261116, count, oracle::script::End::Whole, &mut bytes).expect("a script in memory");
+    bytes
+}

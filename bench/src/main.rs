@@ -1,13 +1,13 @@
 //! The port against the original Rust, in one run and on the same input. Each side is timed in turns, `ROUNDS` times; a row
 //! gives the medians of both, in nanoseconds a call, and the median of the turns' ratios, port to original. The end states,
-//! the memory and the replays' lines must be equal, or the run fails.
+//! the memory and the replays' lines must be equal, and the judges must say yes, or the run fails.
 //!
-//!     bench [REPLAY]     REPLAY: the port's replay program, target/bin/replay
+//!     bench [REPLAY JUDGE]     the port's programs, target/bin/replay and target/bin/judge
 mod input;
 mod port;
+mod programs;
 
-use std::fs::File;
-use std::process::{Command, Stdio, exit};
+use std::process::exit;
 use std::time::{Duration, Instant};
 
 use cgb_vram_dma::entry::STATE_BYTES;
@@ -28,8 +28,8 @@ fn median(mut values: Vec<f64>) -> f64 {
     values[values.len() / 2]
 }
 
-/// Times both sides in turns and prints the row. A goal is the ratio that was asked for.
-fn row(name: &str, calls: usize, goal: f64, mut port: impl FnMut(), mut original: impl FnMut()) {
+/// Times both sides in turns and prints the row. A goal is the ratio that was asked for, if one was.
+fn row(name: &str, calls: usize, goal: impl Into<Option<f64>>, mut port: impl FnMut(), mut original: impl FnMut()) {
     let (mut ours, mut theirs, mut ratios) = (Vec::new(), Vec::new(), Vec::new());
     for _ in 0..ROUNDS {
         let (p, o) = (timed(&mut port), timed(&mut original));
@@ -38,7 +38,8 @@ fn row(name: &str, calls: usize, goal: f64, mut port: impl FnMut(), mut original
         ratios.push(p / o);
     }
     let ns = |seconds: Vec<f64>| median(seconds) * 1e9 / calls as f64;
-    println!("| {name} | {:.1} | {:.1} | {:.2} | {goal:.1} |", ns(ours), ns(theirs), median(ratios));
+    let goal = goal.into().map_or("none".to_string(), |ratio| format!("{ratio:.1}"));
+    println!("| {name} | {:.1} | {:.1} | {:.2} | {goal} |", ns(ours), ns(theirs), median(ratios));
 }
 
 /// Runs of steps, each from the start state.
@@ -106,34 +107,6 @@ fn entry(name: &str, goal: f64, start: [u8; STATE_BYTES], steps: &[u8], times: u
     assert_eq!(ours, theirs, "{name}: the states differ");
 }
 
-fn replayed(program: &str, words: &[&str], script: &str, lines: &str) {
-    let input = Stdio::from(File::open(script).expect("the script can be read"));
-    let output = Stdio::from(File::create(lines).expect("the lines can be written"));
-    let status = Command::new(program).args(words).stdin(input).stdout(output).status();
-    assert!(status.is_ok_and(|s| s.success()), "{program} did not run");
-}
-
-/// The replay programs, each as a process of its own: from a file to a file.
-fn replay(program: &str, steps: &[u8], frames: usize) {
-    let folder = std::env::temp_dir().join(format!("bench-{}", std::process::id()));
-    std::fs::create_dir_all(&folder).expect("a folder for the script");
-    let place = |name: &str| folder.join(name).to_str().expect("a plain path").to_string();
-    let (script, ours, theirs) = (place("script"), place("port"), place("original"));
-    let bytes = input::script(steps, frames);
-    std::fs::write(&script, &bytes).expect("the script can be written");
-    let own = std::env::current_exe().expect("this program").to_str().expect("a plain path").to_string();
-    row(
-        "replay, a record",
-        bytes.len() / 16,
-        1.0,
-        || replayed(program, &[], &script, &ours),
-        || replayed(&own, &["original-replay"], &script, &theirs),
-    );
-    let same = std::fs::read(&ours).unwrap() == std::fs::read(&theirs).unwrap();
-    std::fs::remove_dir_all(&folder).ok();
-    assert!(same, "the replays' lines differ");
-}
-
 /// A warm processor: the first row is not to pay for it.
 fn warm() {
     let began = Instant::now();
@@ -144,13 +117,11 @@ fn warm() {
 
 fn main() {
     let words: Vec<String> = std::env::args().skip(1).collect();
-    if words.first().map(String::as_str) == Some("original-replay") {
-        let (mut input, mut output) = (std::io::stdin().lock(), std::io::stdout().lock());
-        oracle::replay::run(&mut input, &mut output).expect("the replay could not be read or written");
+    if programs::original(&words) {
         return;
     }
-    if words.len() > 1 {
-        eprintln!("usage: bench [REPLAY]");
+    if !matches!(words.len(), 0 | 2) {
+        eprintln!("usage: bench [REPLAY JUDGE]");
         exit(2);
     }
     warm();
@@ -166,8 +137,8 @@ fn main() {
     falls("random falls", 1.0, armed, &random, 8192, 10);
     falls("bus calls of a General transfer, a fall before each", 1.0, general, &input::general(1024), 1024, 500);
     entry("the exported entry, calls of a frame under an HBlank transfer", 1.0, armed, &upload, 5);
-    match words.first() {
-        Some(program) => replay(program, &upload, 10),
-        None => eprintln!("bench: no replay program was named: the replay was not measured"),
+    match &words[..] {
+        [replay, judge] => programs::rows(replay, judge, &upload),
+        _ => eprintln!("bench: no programs were named: replay and judge were not measured"),
     }
 }
