@@ -16,10 +16,10 @@
 
 /* 10000 times the first number, 100 times the second, and the third. The first grows where a name goes, or where a signature or a
  * layout becomes another; until then a program that compiled still compiles and links, and its states are still taken. The second
- * grows with each landing (docs/LANDINGS.md: base 8 is 1.8, A1 is 1.9), which adds names, and may accept what was refused:
+ * grows with each landing (docs/LANDINGS.md: base 8 is 1.8, A1 1.9, A2 1.10), which adds names, and may accept what was refused:
  * docs/LIBRARY.md says what to look at. The third grows with a correction between two. */
-#define CGB_VRAM_DMA_VERSION 10900
-#define CGB_VRAM_DMA_VERSION_TEXT "1.9.0"
+#define CGB_VRAM_DMA_VERSION 11000
+#define CGB_VRAM_DMA_VERSION_TEXT "1.10.0"
 
 #ifdef __cplusplus
 extern "C" {
