@@ -1,12 +1,12 @@
 -- A turn shows what waited and what came, and keeps what was not taken (specs, `Turns`). Assumes nothing.
-use Prim.Native.Nat.{ℕ, zero, suc, _+_, _-_, _*_, _≤_}
+use Prim.Native.Nat.{ℕ, _+_, _-_, _≤_}
 use mathlib.Core.Path.{_≡_, refl, sym, ap, subst, _∙_}
 use mathlib.Core.Bool.{Bool}
-use mathlib.Core.List.{List, [], _∷_, _++_}
-use native.Mathlib.Nat.{le-of-suc-le-suc, not-suc-le-zero}
+use mathlib.Core.List.{List, _++_}
 use native.Mathlib.Omega.{arith}
 use lib.ListN.{length, take, drop, length-take, take-append-drop}
-use lib.Seq.{take-take, take-nil, drop-drop}
+use lib.Seq.{take-take, drop-drop}
+use Rattle.stream.proofs.Slices.{as-many, drop-take}
 use Rattle.board_log.specs.Judging.{Feeds}
 use Rattle.board_log.specs.declared.judging.Judge.{Judge}
 use Rattle.board_log.specs.declared.judging.Fed.{Fed}
@@ -15,21 +15,12 @@ use Rattle.judge.specs.Turn.{inBuffer, Turns}
 use Rattle.judge.specs.declared.Waiting.{Waiting}
 use Rattle.judge.specs.declared.Turned.{Turned}
 
-fewer : (n m : ℕ) (l : List ℕ) → n ≡ m → take n l ≡ take m l
-fewer n m l e = ap (λ (k : ℕ). take k l) e
-
-drop-take : (t n : ℕ) (l : List ℕ) → t ≤ n → drop t (take n l) ≡ take (n - t) (drop t l)
-drop-take zero n l h = fewer n (n - 0) l (omega arith)
-drop-take (suc t) zero l h = absurd (not-suc-le-zero h)
-drop-take (suc t) (suc n) [] h = sym (take-nil (suc n - suc t))
-drop-take (suc t) (suc n) (x ∷ l) h = drop-take t n l (le-of-suc-le-suc h) ∙ fewer (n - t) (suc n - suc t) (drop t l) (omega arith)
-
 -- what waits once t bytes more of it are taken
 pub rest : (buffer : List ℕ) (from stop t : ℕ) → t ≤ stop - from →
     take (stop - (from + t)) (drop (from + t) buffer) ≡ drop t (take (stop - from) (drop from buffer))
 rest buffer from stop t h =
     let count : stop - (from + t) ≡ (stop - from) - t = omega arith in
-    fewer (stop - (from + t)) ((stop - from) - t) (drop (from + t) buffer) count
+    as-many (stop - (from + t)) ((stop - from) - t) (drop (from + t) buffer) count
     ∙ ap (λ (l : List ℕ). take ((stop - from) - t) l) (sym (drop-drop t from buffer))
     ∙ sym (drop-take t (stop - from) (drop from buffer) h)
 

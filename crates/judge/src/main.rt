@@ -1,6 +1,6 @@
 // judge SCRIPT LOG: whether a board's log of a replay script is the engine's own (document 02, A2). It prints one line: yes, the
 // number of the first record that is not the engine's, or "refused 22". Both files pass once, in step, through buffers of fixed
-// size. The answer waits until both have ended, or one has and the other is longer, since 22 comes before any record.
+// size. The answer waits until both have ended, or one has and more of the other comes, since 22 comes before any record.
 ghost use Prim.Native.Nat.{_-_, _<_, _≤_};
 ghost use mathlib.Core.Path.{_≡_};
 ghost use lib.ListN.{length};

@@ -3,7 +3,8 @@
 // that of the whole input: bytes behind the last whole record, an input that cannot be read, an output that cannot be written.
 ghost use Prim.Native.Nat.{_<_, _≤_};
 ghost use mathlib.Core.Path.{_≡_};
-ghost use lib.ListN.{length};
+ghost use lib.ListN.{length, take};
+ghost use Rattle.own_log.specs.Turn.{LogTurns};
 use console::Cgb;
 use libc::STDERR_FILENO;
 use libc::STDIN_FILENO;
@@ -31,6 +32,7 @@ fn turn(
 ) -> Turned
     requires { ⌜ (waiting < 16) × (length (now buf) ≡ 65536) × (length (now out) ≡ 65536) × (0 < turns) ⌝ }
     ensures { λ r. ⌜ (r .waiting < 16) × (r .turns < turns) ⌝ }
+    ensures { λ r. ⌜ LogTurns state (now (wram .entry)) (take waiting (now (buf .entry))) (now (out .entry)) r (now (buf .exit)) (now (wram .exit)) (now (out .exit)) ⌝ }
 {
     let filled = stream::fill(STDIN_FILENO, buf, waiting);
     let bytes = filled.bytes;

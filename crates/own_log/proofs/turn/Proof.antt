@@ -1,7 +1,7 @@
 -- `turn` stays inside its slices, and leaves less than a record. Assumes nothing.
 use borrow.Author.Needs.{needs}
 use native.Mathlib.Omega.{arith}
-use Rattle.own_log.proofs.Rest.{rest}
+use Rattle.own_log.proofs.Rest.{rest, turned}
 use Rattle.own_log.proofs.turn.Statement.{statement}
 use Rattle.own_log.proofs.turn.Tie as tie
 
@@ -55,8 +55,11 @@ returns c =
     let logged = log .put-log in
     let read = filled .fill in
     let taken = rest _ _ (read .last .1 .0) (a .args .out .now) (read .result .bytes) (logged .result) _ _ (logged .ensures) (read .ensures .0 .1)
-    (omega (arith, read .kept .1 .0, a .pre)) in
-    (omega (arith, front .ensures .0, taken .1), c .before .before .before .before .fewer .ensures)
+    (omega (arith, read .kept .1 .0, a .pre)) in (
+      (omega (arith, front .ensures .0, taken .1), c .before .before .before .before .fewer .ensures),
+      turned _ _ (a .args .buf .now) (read .last .1 .0) (front .last .0) (a .args .out .now) (a .args .waiting) (read .result .bytes) (front .result) _ _ _
+          (logged .result) _ _ (logged .ensures) (read .ensures .0 .0) (read .ensures .1) (taken .0) (front .ensures .0) (front .ensures .1),
+    )
 
 pub turn-spec : {M : Type 1} → statement M
 turn-spec =
