@@ -1,5 +1,5 @@
 -- A turn shows what waited and what came, and keeps what was not taken (specs, `Turns`). Assumes nothing.
-use Prim.Native.Nat.{ℕ, _+_, _-_, _≤_}
+use Prim.Native.Nat.{ℕ, _+_, _-_, _≤_, min}
 use mathlib.Core.Path.{_≡_, refl, sym, ap, subst, _∙_}
 use mathlib.Core.Bool.{Bool}
 use mathlib.Core.List.{List, _++_}
@@ -29,6 +29,19 @@ pub record OneFile (before : List ℕ) (w : Waiting) (after : List ℕ) (from st
   pub most : w .stop - w .from ≤ stop - from
   pub still : take (w .stop - w .from) (drop from after) ≡ take (w .stop - w .from) (drop (w .from) before)
 
+-- by what `refill` promises, of bytes that are there
+pub one-file :
+    (before : List ℕ) (w : Waiting) (after : List ℕ) (from stop : ℕ) → w .stop ≤ length before →
+    min (w .stop) (length before) - w .from ≤ stop - from →
+    take (min (w .stop) (length before) - w .from) (drop from after) ≡ take (min (w .stop) (length before) - w .from) (drop (w .from) before) →
+    OneFile before w after from stop
+one-file before w after from stop inside most still =
+    let all : min (w .stop) (length before) - w .from ≡ w .stop - w .from = omega (arith, inside) in
+    record {
+      most = omega (arith, all, most);
+      still = subst (λ (k : ℕ). take k (drop from after) ≡ take k (drop (w .from) before)) all still;
+    }
+
 module _ (before : List ℕ) (w : Waiting) (after : List ℕ) (from stop : ℕ) (f : OneFile before w after from stop) where
   abbrev n : ℕ
   n = w .stop - w .from
@@ -44,6 +57,10 @@ module _ (before : List ℕ) (w : Waiting) (after : List ℕ) (from stop : ℕ) 
   waited-first =
       ap (λ (l : List ℕ). l ++ drop n shown) (sym (f .still) ∙ sym (take-take n (stop - from) (drop from after) (f .most)))
       ∙ take-append-drop n shown
+
+-- so the rest begins where the buffer still has bytes, or where they end
+pub rest-inside : (from stop t : ℕ) → t ≤ stop - from → from ≤ stop → from + t ≤ stop
+rest-inside from stop t within order = omega arith
 
 -- no more is taken than is shown
 pub taken-within :

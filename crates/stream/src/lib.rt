@@ -1,6 +1,7 @@
 // A file read in parts through a buffer of fixed size: bytes that are not used yet wait at its front, and a read brings more
 // behind them.
-ghost use Prim.Native.Nat.{_-_, _<_, _≤_};
+ghost use Prim.Native.Nat.{_-_, _<_, _≤_, min, max};
+ghost use mathlib.Core.Bool.{false, cond};
 ghost use mathlib.Core.Path.{_≡_};
 ghost use lib.ListN.{length, take, drop};
 
@@ -11,12 +12,17 @@ pub struct Filled {
     pub failed: bool,
 }
 
-// One read, behind the bytes that wait at the front.
+// One read, behind the bytes that wait at the front; where there is no room, none.
 pub fn fill(fd: i32, buf: &mut [u8], waiting: usize) -> Filled
-    requires { ⌜ waiting < length (now buf) ⌝ }
-    ensures { λ r. ⌜ (waiting ≤ r .bytes) × (r .bytes ≤ length (now (buf .exit))) ⌝ }
+    ensures { λ r. ⌜ (waiting ≤ r .bytes) × (r .bytes ≤ max waiting (length (now (buf .exit)))) ⌝ }
     ensures { λ _. ⌜ take waiting (now (buf .exit)) ≡ take waiting (now (buf .entry)) ⌝ }
 {
+    if waiting >= buf.len() {
+        return Filled {
+            bytes: waiting,
+            failed: false,
+        };
+    }
     let room = &mut buf[waiting..];
     let got = libc::read(fd, room);
     let bytes = waiting + io::count(got, room);
@@ -26,13 +32,29 @@ pub fn fill(fd: i32, buf: &mut [u8], waiting: usize) -> Filled
     }
 }
 
-// The bytes from one place up to another moved to the front: how many they are.
+fn less(a: usize, b: usize) -> usize
+    ensures { λ r. ⌜ r ≡ a - b ⌝ }
+{
+    if b < a { a - b } else { 0 }
+}
+
+// How many places there are from one up to another, among so many.
+fn between(from: usize, end: usize, places: usize) -> usize
+    ensures { λ r. ⌜ r ≡ min end places - from ⌝ }
+{
+    if end < places {
+        less(end, from)
+    } else {
+        less(places, from)
+    }
+}
+
+// The bytes from one place up to another, as far as there are any, moved to the front: how many they are.
 pub fn to_front(buf: &mut [u8], from: usize, end: usize) -> usize
-    requires { ⌜ (from ≤ end) × (end ≤ length (now buf)) ⌝ }
-    ensures { λ r. ⌜ r ≡ end - from ⌝ }
+    ensures { λ r. ⌜ r ≡ min end (length (now (buf .entry))) - from ⌝ }
     ensures { λ r. ⌜ take r (now (buf .exit)) ≡ take r (drop from (now (buf .entry))) ⌝ }
 {
-    let n = end - from;
+    let n = between(from, end, buf.len());
     let mut i: usize = 0;
     while i < n {
         buf[i] = buf[from + i];
@@ -50,17 +72,17 @@ pub struct Refilled {
     pub failed: bool,
 }
 
-// Where fewer than `enough` bytes wait, they go to the front, and one read brings more behind them.
+// Where fewer than `enough` bytes wait, from one place up to another, they go to the front, and one read brings more behind them.
 pub fn refill(fd: i32, buf: &mut [u8], from: usize, stop: usize, enough: usize) -> Refilled
-    requires { ⌜ (from ≤ stop) × (stop ≤ length (now buf)) × (enough ≤ length (now buf)) ⌝ }
-    ensures { λ r. ⌜ (r .from ≤ r .stop) × (r .stop ≤ length (now (buf .exit))) × (stop - from ≤ r .stop - r .from) ⌝ }
-    ensures { λ r. ⌜ take (stop - from) (drop (r .from) (now (buf .exit))) ≡ take (stop - from) (drop from (now (buf .entry))) ⌝ }
+    ensures { λ r. ⌜ (r .from ≤ r .stop) × (r .stop ≤ length (now (buf .exit))) ⌝ }
+    ensures { λ r. ⌜ min stop (length (now (buf .entry))) - from ≤ r .stop - r .from ⌝ }
+    ensures { λ r. ⌜ take (min stop (length (now (buf .entry))) - from) (drop (r .from) (now (buf .exit))) ≡ take (min stop (length (now (buf .entry))) - from) (drop from (now (buf .entry))) ⌝ }
 {
-    let waiting = stop - from;
-    if waiting >= enough {
+    let waiting = between(from, stop, buf.len());
+    if (waiting >= enough) & (from <= buf.len()) {
         return Refilled {
             from: from,
-            stop: stop,
+            stop: from + waiting,
             dry: false,
             failed: false,
         };
@@ -80,14 +102,22 @@ pub fn refill(fd: i32, buf: &mut [u8], from: usize, stop: usize, enough: usize) 
 // How many reads may still come after this one, none where the last brought nothing. A loop has to end, and nothing says that a file
 // does: so it counts down, from a number that no run uses up.
 pub fn fewer(turns: u64, more: bool) -> u64
-    requires { ⌜ 0 < turns ⌝ }
-    ensures { λ r. ⌜ r < turns ⌝ }
+    ensures { λ r. ⌜ r ≡ cond more (turns - 1) 0 ⌝ }
+    ensures { λ r. ⌜ r ≤ turns - 1 ⌝ }
 {
-    if more { turns - 1 } else { 0 }
+    if !more {
+        return 0;
+    }
+    if turns == 0 {
+        return 0;
+    }
+    turns - 1
 }
 
 // The front of a buffer written out: whether all of it was.
-pub fn flush(fd: i32, out: &[u8], n: usize) -> bool {
+pub fn flush(fd: i32, out: &[u8], n: usize) -> bool
+    ensures { λ r. ⌜ (length (now (out .entry)) < n → r ≡ false) ⌝ }
+{
     if n <= out.len() {
         return io::write_all(fd, &out[0..n]);
     }

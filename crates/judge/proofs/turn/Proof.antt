@@ -2,7 +2,7 @@
 use borrow.Author.Needs.{needs}
 use Prim.Native.Nat.{_-_}
 use native.Mathlib.Omega.{arith}
-use Rattle.judge.proofs.Seams.{OneFile, taken-within, turned}
+use Rattle.judge.proofs.Seams.{OneFile, one-file, rest-inside, taken-within, turned}
 use Rattle.judge.proofs.turn.Statement.{statement}
 use Rattle.judge.proofs.turn.Tie as tie
 
@@ -77,15 +77,16 @@ returns c =
     let inLog = l .refill2 .result in
     let within = taken-within _ _ _ _ (inScript .stop - inScript .from) (inLog .stop - inLog .from) _ _ (fed .ensures) in
     let script : OneFile (a .script .now) (a .script-waits) (s .refill .last .1 .0) (s .refill .result .from) (s .refill .result .stop) =
-    record { most = s .refill .ensures .0 .2; still = s .refill .ensures .1 } in
+    one-file _ _ _ _ _ (s .before .before .before .before .before .pre .0 .1) (s .refill .ensures .1 .0) (s .refill .ensures .1 .1) in
     let log : OneFile (a .log .now) (a .log-waits) (l .refill2 .last .1 .0) (l .refill2 .result .from) (l .refill2 .result .stop) =
-    record { most = l .refill2 .ensures .0 .2; still = l .refill2 .ensures .1 } in
-    let bounds = l .refill2 .ensures .0 in (
-      (omega (arith, within .0, s .refill .ensures .0), s .refill .ensures .0 .1),
+    one-file _ _ _ _ _ (s .before .before .before .before .before .pre .1 .0 .1) (l .refill2 .ensures .1 .0) (l .refill2 .ensures .1 .1) in
+    let bounds = l .refill2 .ensures .0 in
+    let later = c .before .before .before .before .before .before .before .before .before .before .before .fewer .ensures .1 in (
+      (rest-inside (inScript .from) (inScript .stop) _ (within .0) (s .refill .ensures .0 .0), s .refill .ensures .0 .1),
       (
-        (omega (arith, within .1, bounds), bounds .1),
+        (rest-inside (inLog .from) (inLog .stop) _ (within .1) (bounds .0), bounds .1),
         (
-          c .before .before .before .before .before .before .before .before .before .before .before .fewer .ensures,
+          omega (arith, later, s .before .before .before .before .before .pre),
           turned (a .j) (a .wram .now) (a .script .now) (a .log .now) (a .script-waits) (a .log-waits) _ _ _ _ _ _ _ _ script log (fed .ensures) _ _,
         ),
       ),

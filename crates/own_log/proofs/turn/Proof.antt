@@ -1,6 +1,9 @@
 -- `turn` stays inside its slices, and leaves less than a record. Assumes nothing.
 use borrow.Author.Needs.{needs}
+use Prim.Native.Nat.{_-_, _≤_}
+use mathlib.Core.Path.{_≡_}
 use native.Mathlib.Omega.{arith}
+use lib.ListN.{length}
 use Rattle.own_log.proofs.Rest.{rest, turned}
 use Rattle.own_log.proofs.turn.Statement.{statement}
 use Rattle.own_log.proofs.turn.Tie as tie
@@ -26,17 +29,6 @@ flush-requires c κs = search needs
 fewer-requires : tie.Need-fewer-requires
 fewer-requires c κs = search needs
 
-to-front-requires : tie.Need-to-front-requires
-to-front-requires c κs =
-    let log = c .before .before .before .before .before .before .before .before .before in
-    let filled = log .before .before .before .before .before .before .before in
-    let a = filled .before .before .before .before .before in
-    let logged = log .put-log in
-    let read = filled .fill in
-    let taken = rest _ _ (read .last .1 .0) (a .args .out .now) (read .result .bytes) (logged .result) _ _ (logged .ensures) (read .ensures .0 .1)
-    (omega (arith, read .kept .1 .0, a .pre)) in
-    (taken .0, read .ensures .0 .1)
-
 same-length : tie.Need-same-length
 same-length c = search needs
 
@@ -54,11 +46,13 @@ returns c =
     let a = filled .before .before .before .before .before in
     let logged = log .put-log in
     let read = filled .fill in
-    let taken = rest _ _ (read .last .1 .0) (a .args .out .now) (read .result .bytes) (logged .result) _ _ (logged .ensures) (read .ensures .0 .1)
-    (omega (arith, read .kept .1 .0, a .pre)) in (
-      (omega (arith, front .ensures .0, taken .1), c .before .before .before .before .fewer .ensures),
+    let inside : read .result .bytes ≤ length (read .last .1 .0) = omega (arith, read .ensures .0, read .kept .1 .0, a .pre) in
+    let taken = rest _ _ (read .last .1 .0) (a .args .out .now) (read .result .bytes) (logged .result) _ _ (logged .ensures) inside
+    (omega (arith, read .kept .1 .0, a .pre)) in
+    let left : front .result ≡ read .result .bytes - logged .result .taken = omega (arith, front .ensures .0, inside) in (
+      (omega (arith, left, taken .1), omega (arith, c .before .before .before .before .fewer .ensures .1, a .pre)),
       turned _ _ (a .args .buf .now) (read .last .1 .0) (front .last .0) (a .args .out .now) (a .args .waiting) (read .result .bytes) (front .result) _ _ _
-          (logged .result) _ _ (logged .ensures) (read .ensures .0 .0) (read .ensures .1) (taken .0) (front .ensures .0) (front .ensures .1),
+          (logged .result) _ _ (logged .ensures) (read .ensures .0 .0) (read .ensures .1) (taken .0) left (front .ensures .1),
     )
 
 pub turn-spec : {M : Type 1} → statement M
@@ -72,7 +66,7 @@ turn-spec =
     put-log-requires
     flush-requires
     fewer-requires
-    to-front-requires
+    (λ c κs. search needs)
     same-length
     same-length-2
     same-length-3

@@ -14,8 +14,8 @@ Inv-loop buf₀ from end n i₀ buf i = (i ≤ n) × (length buf ≡ length buf�
 abbrev μ-loop : tie.MeasureT-loop
 μ-loop buf₀ from end n i₀ buf i = n - i
 
-sub-n : tie.Need-sub-n Inv-loop μ-loop
-sub-n c = search needs
+between-requires : tie.Need-between-requires Inv-loop μ-loop
+between-requires c κs = search needs
 
 loop-holds : tie.Need-loop-holds Inv-loop μ-loop
 loop-holds c = (search needs, search needs, none-moved _ _)
@@ -38,7 +38,7 @@ loop-less c = search needs
 loop-again : tie.Need-loop-again Inv-loop μ-loop
 loop-again c =
     let l = c .before .before .loop in
-    let a = c .before .before .before .args in
+    let a = c .before .before .before .before .before .args in
     (search needs, search needs, one-more (a .buf .now) (a .from) (l .i) (l .buf) (omega arith) (omega arith) (l .inv .2))
 
 same-length : tie.Need-same-length Inv-loop μ-loop
@@ -47,9 +47,9 @@ same-length c = search needs
 returns : tie.Need-returns Inv-loop μ-loop
 returns c =
     let l = c .before .loop in
-    let a = c .before .before .args in
-    let all : l .i ≡ a .end - a .from = omega arith in
-    (refl, rw (← all) (l .inv .2 .front))
+    let n = c .before .before .between in
+    let all : l .i ≡ n .result = omega arith in
+    (n .ensures, rw (← all) (l .inv .2 .front))
 
 pub to-front-spec : {M : Type 1} → statement M
 to-front-spec =
@@ -57,7 +57,7 @@ to-front-spec =
     (tie.spec
     Inv-loop
     μ-loop
-    sub-n
+    between-requires
     loop-holds
     add-buf
     slice-read-buf
