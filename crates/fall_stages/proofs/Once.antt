@@ -2,14 +2,13 @@
 use Prim.Native.Nat.{ℕ, _+_, _≤_}
 use native.Mathlib.Omega.{arith}
 use mathlib.Core.Path.{_≡_, refl, sym, _∙_}
-use mathlib.Core.Bool.{Bool, true, false, cond, _&&_, and-false, false≢true}
+use mathlib.Core.Bool.{Bool, true, false, cond, and-false, false≢true}
 use mathlib.Core.List.{List, [], _∷_}
-use lib.Dec.{ltb, lit≤}
+use lib.Dec.{lit≤}
 use Rattle.console.specs.declared.vram_dma.VramDma.{VramDma}
 use Rattle.transfer.specs.Latch.{latchedBlock, latchedOf, unclaimed, latchesDark, lcdDisabledOf}
-use Rattle.transfer.specs.Pair.{movingOf, blockAfter, arbAfter, advancedOf, pairOf, nextByteOf, withQuota, drainOf}
-use Rattle.transfer.specs.declared.pair.NextAnswer.the-variants.{Pair, None}
-use Rattle.transfer.specs.declared.pair.NextByte.{NextByte}
+use Rattle.transfer.specs.Pair.{blockAfter, arbAfter, advancedOf, nextByteOf, drainOf}
+use Rattle.transfer.proofs.Keeps.{next-keeps, drain-keeps}
 use Rattle.fall_stages.specs.Fall.{viewOf, settledOf, observedArb, observedOf, judgedBlock, ungrantedArb, probationOf, droppedBlock}
 use Rattle.fall_stages.specs.Fall.{haltLatchArb, haltLatchOf, blindsArb, blindsOf, commits, commitBlock, commitOf, tenureOf, pends}
 use Rattle.fall_stages.specs.Fall.{pendArb, pendOf, readiedBlock, readinessOf, refilledOf, seizedBlock, seizureOf, startedOf}
@@ -116,27 +115,14 @@ once-among d n period = at-most period
 same : {d e : VramDma} → e .block .taken ≡ d .block .taken → e .arb .pend ≡ d .arb .pend → Between d e
 same t p = record { taken = λ h. t ∙ h; pend = λ h. p ∙ h }
 
-moved : (d : VramDma) → Between d (advancedOf d)
-unfolding advancedOf blockAfter arbAfter
-moved d = same refl refl
-
-either : (b : Bool) (d : VramDma) (x y : NextByte) → Between d (x .dma) → Between d (y .dma) → Between d (cond b x y .dma)
-either true d x y p q = p
-either false d x y p q = q
-
 pair : (d : VramDma) → Between d (nextByteOf d .dma)
-unfolding nextByteOf
-pair d =
-    either (ltb 0 (d .cursor .quota) && movingOf d) d (record { answer = Pair (pairOf (d .cursor)); dma = advancedOf d }) (record { answer = None; dma = d })
-    (moved d) (same refl refl)
+unfolding advancedOf blockAfter arbAfter
+pair d = next-keeps (Between d) d (same refl refl) (same refl refl)
 
 -- a drain's pair starts from the quota 1, which is no part of it
 drain : (d : VramDma) → Between d (drainOf d .dma)
-unfolding drainOf
-drain d =
-    let p : Between (withQuota 1 d) (nextByteOf (withQuota 1 d) .dma) = pair (withQuota 1 d) in
-    either (d .cursor .«escape_byte» && movingOf d) d (nextByteOf (withQuota 1 d)) (record { answer = None; dma = d })
-    (record { taken = p .taken; pend = p .pend }) (same refl refl)
+unfolding advancedOf blockAfter arbAfter
+drain d = drain-keeps (Between d) d (same refl refl) (same refl refl) (same refl refl)
 
 lcd-off : (b : Bool) (d : VramDma) → Between d (cond b (latchedOf (unclaimed d)) (unclaimed d))
 unfolding latchedOf latchedBlock

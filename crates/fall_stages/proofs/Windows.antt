@@ -10,9 +10,8 @@ use Rattle.countdown.specs.declared.Countdown.{Countdown}
 use Rattle.console.specs.Modes.{isGeneral, isHBlank}
 use Rattle.console.specs.declared.vram_dma.VramDma.{VramDma}
 use Rattle.transfer.specs.Latch.{latchedBlock, latchedOf, latchesDark, lcdDisabledOf, retiredOf}
-use Rattle.transfer.specs.Pair.{movingOf, blockAfter, arbAfter, advancedOf, pairOf, nextByteOf, withQuota, drainOf}
-use Rattle.transfer.specs.declared.pair.NextAnswer.the-variants.{Pair, None}
-use Rattle.transfer.specs.declared.pair.NextByte.{NextByte}
+use Rattle.transfer.specs.Pair.{movingOf, blockAfter, arbAfter, advancedOf, nextByteOf, withQuota, drainOf}
+use Rattle.transfer.proofs.Keeps.{next-keeps, drain-keeps}
 use Rattle.fall_stages.specs.Fall.{gates, fallOf}
 use Rattle.fall_stages.specs.Steps.{settles, reaches6}
 use Rattle.fall_stages.specs.Windows.{atStep, blindOf3, blindOf6, tenureOf36, readiness, Since, by-call, then-other, Nth, Enters}
@@ -174,26 +173,18 @@ module _ (k : ℕ) (e : VramDma) (r : Since readiness k e) where
 same : (d : VramDma) → KeepsWindows d d
 same d = record { blind3 = refl; blind6 = refl; tenure = refl; ready = refl }
 
-moved : (d : VramDma) → KeepsWindows d (advancedOf d)
+moved : (d e : VramDma) → KeepsWindows d e → KeepsWindows d (advancedOf e)
 unfolding advancedOf blockAfter arbAfter
-moved d = record { blind3 = refl; blind6 = refl; tenure = refl; ready = refl }
-
-either : (b : Bool) (d : VramDma) (x y : NextByte) → KeepsWindows d (x .dma) → KeepsWindows d (y .dma) → KeepsWindows d (cond b x y .dma)
-either true d x y p q = p
-either false d x y p q = q
+moved d e k = record { blind3 = k .blind3; blind6 = k .blind6; tenure = k .tenure; ready = k .ready }
 
 pair : (d : VramDma) → KeepsWindows d (nextByteOf d .dma)
-unfolding nextByteOf
-pair d =
-    either (ltb 0 (d .cursor .quota) && movingOf d) d (record { answer = Pair (pairOf (d .cursor)); dma = advancedOf d })
-    (record { answer = None; dma = d }) (moved d) (same d)
+pair d = next-keeps (KeepsWindows d) d (same d) (moved d d (same d))
 
 drain : (d : VramDma) → KeepsWindows d (drainOf d .dma)
-unfolding drainOf
-drain d =
-    let p = pair (withQuota 1 d) in
-    either (d .cursor .«escape_byte» && movingOf d) d (nextByteOf (withQuota 1 d)) (record { answer = None; dma = d })
-    (record { blind3 = p .blind3; blind6 = p .blind6; tenure = p .tenure; ready = p .ready }) (same d)
+drain d = drain-keeps (KeepsWindows d) d (same d) one (moved d (withQuota 1 d) one)
+  where
+    one : KeepsWindows d (withQuota 1 d)
+    one = record { blind3 = refl; blind6 = refl; tenure = refl; ready = refl }
 
 retired : (d : VramDma) → KeepsWindows d (retiredOf d)
 retired d = record { blind3 = refl; blind6 = refl; tenure = refl; ready = refl }

@@ -1,22 +1,20 @@
 -- The bus is shared for one M-cycle past the 160th byte, and no longer (specs, `OneMore`). Assumes nothing.
-use Prim.Native.Nat.{ℕ, zero, suc, _+_}
+use Prim.Native.Nat.{ℕ, _+_}
 use native.Mathlib.Omega.{arith}
 use mathlib.Core.Path.{_≡_, refl, sym, ap, subst, _∙_}
-use mathlib.Core.Bool.{Bool, true, false, cond, _&&_, false≢true}
+use mathlib.Core.Bool.{Bool, true, false, cond, false≢true}
 use mathlib.Core.Logic.{_⊎_, inl, inr, ⊎-elim}
-use lib.Dec.{ltb}
 use Rattle.console.specs.Reached.{unreached}
 use Rattle.console.specs.Set.{withVramDma, withDmaOam, withObjectDma}
 use Rattle.console.specs.declared.Cgb.{Cgb}
 use Rattle.console.specs.declared.object.ObjectDma.{ObjectDma}
 use Rattle.console.specs.declared.vram_dma.OamContention.{OamContention}
 use Rattle.console.specs.declared.vram_dma.VramDma.{VramDma}
-use Rattle.transfer.specs.Pair.{movingOf, pairOf, nextByteOf, advancedOf}
+use Rattle.transfer.specs.Pair.{nextByteOf, advancedOf}
+use Rattle.transfer.proofs.Keeps.{next-keeps}
 use Rattle.bus.specs.Arbitration.{contends, stalls, arbitrationOf, arbitratedOf}
-use Rattle.bus.specs.Commit.{Taken, afterAnswer, takenOf, pairsOf, busTaken}
-use Rattle.transfer.specs.declared.pair.NextAnswer.{NextAnswer}
-use Rattle.transfer.specs.declared.pair.NextAnswer.the-variants as next
-use Rattle.transfer.specs.declared.pair.NextByte.{NextByte}
+use Rattle.bus.specs.Commit.{busTaken}
+use Rattle.bus.proofs.Taken.{bus-keeps}
 use Rattle.bus.specs.declared.arbitration.Arbitration.{Arbitration}
 use Rattle.bus.specs.declared.arbitration.ArbitrationInput.{ArbitrationInput}
 use Rattle.bus.specs.declared.commit.BusInput.{BusInput}
@@ -34,35 +32,17 @@ use Rattle.engine.specs.Calls.{Lengths, busRefusal, takenIn, busState, arbitrat
 use Rattle.engine.specs.Calls.{fallenState, countsByte, afterCycle, cycleState}
 use Rattle.ledger.specs.Calls.{Outcome, fall, arbitrate-inside, bus-call-inside, object-dma-cycle, step}
 use Rattle.ledger.proofs.AcceptedOrDeclined.{either-way}
-use Rattle.ledger.proofs.BusKinds.{of-each}
 use Rattle.ledger.proofs.Keeps.{step-keeps}
 use Rattle.object_dma_run.specs.Shared.{answerIn, givenIn, afterMCycle}
 use Rattle.object_dma_run.specs.ObjectDmaRun.{LastByte, BetweenCycles, OneMore}
 
 -- ---- a bus call leaves what arbitration keeps
 next-oam : (d : VramDma) → nextByteOf d .dma .oam ≡ d .oam
-unfolding nextByteOf advancedOf
-next-oam d = by (ltb 0 (d .cursor .quota) && movingOf d)
-  where
-    by :
-        (b : Bool) →
-        cond {A = NextByte} b (record { answer = next.Pair (pairOf (d .cursor)); dma = advancedOf d }) (record { answer = next.None; dma = d }) .dma .oam ≡
-        d .oam
-    by true = refl
-    by false = refl
-
-taken-oam : (n : ℕ) (d : VramDma) → takenOf n d .dma .oam ≡ d .oam
-unfolding takenOf
-taken-oam zero d = refl
-taken-oam (suc n) d = by (nextByteOf d .answer) (taken-oam n (nextByteOf d .dma) ∙ next-oam d)
-  where
-    by : (a : NextAnswer) → takenOf n (nextByteOf d .dma) .dma .oam ≡ d .oam → afterAnswer d a (takenOf n (nextByteOf d .dma)) .dma .oam ≡ d .oam
-    by (next.Pair p) h = h
-    by next.None h = refl
+unfolding advancedOf
+next-oam d = next-keeps (λ x. x .oam ≡ d .oam) d refl refl
 
 bus-oam : (i : BusInput) (d : VramDma) → busTaken i d .dma .oam ≡ d .oam
-unfolding pairsOf
-bus-oam i d = of-each (λ (t : Taken). t .dma .oam ≡ d .oam) i d refl refl (taken-oam (d .cursor .quota) d)
+bus-oam i d = bus-keeps (λ x. x .oam ≡ d .oam) (λ x k. next-oam x ∙ k) (λ x cells k. k) i d refl
 
 -- ---- the three calls of an M-cycle, each accepted
 module _ (s : Cgb) (reached : unreached s ≡ false) where
