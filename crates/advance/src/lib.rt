@@ -1,8 +1,8 @@
-// A pair: the address that its byte lands on, and cursor, block and arbiter after it (vram_dma.rs, `write_address`,
-// `next_byte`). Whether one comes is asked in `next_pair`.
+// A pair: the address that its byte lands on, cursor, block and arbiter after it (vram_dma.rs, `write_address`, `next_byte`),
+// and how the run goes on. Whether one comes is asked in `next_pair`.
 ghost use mathlib.Core.Path.{_≡_};
 ghost use Rattle.transfer.specs.Questions.{writeAddress};
-ghost use Rattle.transfer.specs.Pair.{leftIf, cursorAfter, blockAfter, arbAfter, advancedOf};
+ghost use Rattle.transfer.specs.Pair.{leftIf, cursorAfter, blockAfter, arbAfter, advancedOf, causeIf};
 use arithmetic::pick::pick16;
 use arithmetic::step::less_one;
 use arithmetic::step::less_one_if;
@@ -14,6 +14,7 @@ use console::vram_dma::TransferCursor;
 use console::vram_dma::TransferMode;
 use console::vram_dma::VramDma;
 use console::vram_dma::pick_mode;
+use transfer::pair::Cause;
 
 // The VRAM address that the next byte lands on.
 pub fn write_address(c: TransferCursor) -> u16
@@ -80,4 +81,17 @@ pub fn advance(d: VramDma) -> VramDma
     let moved = rebuild::with_dma_cursor(d, cursor);
     let taken = rebuild::with_dma_block(moved, block);
     rebuild::with_dma_arb(taken, arb)
+}
+
+// How the run goes on (document 02, A3): carried: the destination went past FFFFh; left: after the pair.
+pub fn cause(carried: bool, left: u16) -> Cause
+    ensures { λ r. ⌜ r ≡ causeIf carried left ⌝ }
+{
+    if carried {
+        return Cause::Carried;
+    }
+    if left == 0 {
+        return Cause::CountedOut;
+    }
+    Cause::GoingOn
 }

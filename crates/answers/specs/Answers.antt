@@ -11,6 +11,8 @@ use Rattle.console.specs.declared.Cgb.{Cgb}
 use Rattle.console.specs.declared.VramDmaClaim.{VramDmaClaim}
 use Rattle.transfer.specs.declared.VramDmaStatus.{VramDmaStatus}
 use Rattle.transfer.specs.declared.VramDmaStatus.the-variants as dma
+use Rattle.transfer.specs.declared.pair.Cause.{Cause}
+use Rattle.transfer.specs.declared.pair.Cause.the-variants.{GoingOn, CountedOut, Carried}
 use Rattle.answers.specs.declared.ByteAnswer.{ByteAnswer}
 use Rattle.answers.specs.declared.ByteAnswer.the-variants as byte
 use Rattle.answers.specs.declared.DoneAnswer.{DoneAnswer}
@@ -101,9 +103,15 @@ abbrev pub statusSays : StatusAnswer → Said
 statusSays (status.Status s) = accepted (modeSays s)
 statusSays (status.Refused n) = declined n
 
--- 0 for none; else 1, the source and the destination
+-- document 02, A3: how the run goes on after a pair, "0, 1 or 2"
+abbrev pub causeNumber : Cause → ℕ
+causeNumber GoingOn = 0
+causeNumber CountedOut = 1
+causeNumber Carried = 2
+
+-- 0 for none; else 1, the source, the destination and the cause
 abbrev pub pairSays : PairAnswer → Said
-pairSays (pair.Pair p) = accepted (1 ∷ p .source ∷ p .dest ∷ [])
+pairSays (pair.Pair p k) = accepted (1 ∷ p .source ∷ p .dest ∷ causeNumber k ∷ [])
 pairSays pair.None = accepted (0 ∷ [])
 pairSays (pair.Refused n) = declined n
 
@@ -121,7 +129,7 @@ arbitrationSays arbitration.Contended = accepted (1 ∷ [])
 arbitrationSays arbitration.Stall = accepted (2 ∷ [])
 arbitrationSays (arbitration.Refused n) = declined n
 
--- how many pairs moved, and whether a set-up cell was used; the pairs and bytes stand beside it
+-- how many pairs moved, and whether a set-up cell was used; the pairs, their causes and bytes stand beside it
 abbrev pub busSays : BusAnswer → Said
 busSays (moved.Moved count setup) = accepted (count ∷ bitOf setup ∷ [])
 busSays (moved.Refused n) = declined n

@@ -3,6 +3,8 @@
 use console::Cgb;
 use transfer::VramDmaStatus;
 use transfer::pair::BytePair;
+use transfer::pair::Cause;
+use transfer::pair::Causes;
 
 pub enum DoneAnswer {
     Done,
@@ -40,8 +42,9 @@ pub enum ClaimAnswer {
     Refused(u8),
 }
 
+// A pair says how the run goes on.
 pub enum PairAnswer {
-    Pair(BytePair),
+    Pair(BytePair, Cause),
     None,
     Refused(u8),
 }
@@ -61,8 +64,8 @@ pub enum ArbitrationAnswer {
     Refused(u8),
 }
 
-// How many pairs a bus call moved, and whether a set-up cell used it up. The pairs and their bytes
-// stand in arrays beside it.
+// How many pairs a bus call moved, and whether a set-up cell used it up. The pairs, their causes and
+// their bytes stand beside it.
 pub enum BusAnswer {
     Moved { count: u8, setup_cell: bool },
     Refused(u8),
@@ -122,10 +125,11 @@ pub struct Arbitrated {
     pub state: Cgb,
 }
 
-// Of the arrays the first `count` places are used, the others are 0.
+// Of pairs, causes and bytes the first `count` places are used, the others are 0 and going on.
 pub struct BusOutcome {
     pub answer: BusAnswer,
     pub pairs: [BytePair; 2],
+    pub causes: Causes,
     pub bytes: [u8; 2],
     pub state: Cgb,
 }

@@ -18,14 +18,16 @@ use Rattle.transfer.specs.Pair.{cursorAfter, blockAfter, advancedOf, nextByteOf
 use Rattle.transfer.specs.PairsLeft.{pairsLeft, movable}
 use Rattle.transfer.specs.PairSteps.{Ready}
 use Rattle.transfer.specs.declared.pair.BytePair.{BytePair}
+use Rattle.transfer.specs.declared.pair.Cause.{Cause}
 use Rattle.transfer.specs.declared.pair.NextAnswer.the-variants.{Pair, None}
 use Rattle.transfer.proofs.Keeps.{keeps-refl, next-keeps, keeps}
 use Rattle.transfer.proofs.PairsLeft.{pairs-left}
-use Rattle.transfer.proofs.PairSteps.{pair-steps}
+use Rattle.transfer.proofs.PairSteps.{pair-steps, no-pair, is-ready}
 use Rattle.bus.specs.BusSteps.{HandsOut, BusSteps}
 use Rattle.bus.specs.Commit.{Taken, nothing, pairsOf, holdsBus, setupStands, withCells, busTaken}
 use Rattle.bus.specs.declared.commit.BusInput.{BusInput}
-use Rattle.bus.proofs.Taken.{released, cell, moving, each-kind, no-pair, is-ready, quota-falls}
+use Rattle.bus.proofs.Causes.{bus-causes}
+use Rattle.bus.proofs.Taken.{released, cell, moving, each-kind, quota-falls}
 use Rattle.bus.proofs.Taken.{pairs-none, pairs-one, by-pairs, pairs-keep, bus-keeps, pairs-no-setup}
 
 neither : (a b : Bool) → a ≡ false → b ≡ false → (a || b) ≡ false
@@ -34,12 +36,12 @@ neither false b p q = q
 
 -- pairs are taken until none comes
 pairs-end : (d : VramDma) → nextByteOf (pairsOf d .dma) .answer ≡ None
-pairs-end d = by-pairs (λ d t. nextByteOf (t .dma) .answer ≡ None) (λ d e. e) (λ d p t e rest. rest) d
+pairs-end d = by-pairs (λ d t. nextByteOf (t .dma) .answer ≡ None) (λ d e. e) (λ d p k t e rest. rest) d
 
 pairs-quota : (d : VramDma) → length (pairsOf d .pairs) + pairsOf d .dma .cursor .quota ≡ d .cursor .quota
 pairs-quota d =
     by-pairs (λ d t. length (t .pairs) + t .dma .cursor .quota ≡ d .cursor .quota) (λ d e. omega arith)
-    (λ d p t e rest. let fell = quota-falls d p e in omega (arith, fell, rest)) d
+    (λ d p k t e rest. let fell = quota-falls d p k e in omega (arith, fell, rest)) d
 
 -- how many they are
 least-more : (l q m k : ℕ) → l ≡ min q m → m + 1 ≡ k → suc l ≡ min (suc q) k
@@ -57,7 +59,7 @@ none-movable d low e = ⊎-elim (λ none. omega (arith, none)) (λ some. stuck s
         ⊎-elim (λ z. omega (arith, z))
         (λ more.
         absurd
-        (no-pair _
+        (no-pair _ _
         (sym e ∙ pair-steps .gives d (record { quota = some; moving = pairs-left d low .moving .1 (omega (arith, more, is)) }))))
         (eq-zero-or-pos m)
 
@@ -72,15 +74,15 @@ counted d = by-pairs (λ d t. d .cursor .dest < 65536 → Counted d t) over on d
     over d e low = record { count = none-movable d low e; rest = omega arith }
 
     on :
-        (d : VramDma) (p : BytePair) (t : Taken) → nextByteOf d .answer ≡ Pair p →
+        (d : VramDma) (p : BytePair) (k : Cause) (t : Taken) → nextByteOf d .answer ≡ Pair p k →
         (nextByteOf d .dma .cursor .dest < 65536 → Counted (nextByteOf d .dma) t) → d .cursor .dest < 65536 →
-        Counted d (record { dma = t .dma; pairs = p ∷ t .pairs; setup = false })
-    on d p t e rest low =
-        let r : Ready d = is-ready d p e in
+        Counted d (record { dma = t .dma; pairs = p ∷ t .pairs; causes = k ∷ t .causes; setup = false })
+    on d p k t e rest low =
+        let r : Ready d = is-ready d p k e in
         let dest = pair-steps .moves d r .dest in
         let c : Counted (nextByteOf d .dma) t = rest (omega (arith, dest)) in
         record {
-          count = rw (quota-falls d p e) (least-more _ _ _ _ (c .count) (pairs-left d low .one-movable r));
+          count = rw (quota-falls d p k e) (least-more _ _ _ _ (c .count) (pairs-left d low .one-movable r));
           rest = rest-more _ _ _ _ (c .rest) (pairs-left d low .one-left r);
         }
 
@@ -121,15 +123,17 @@ marks-kept d e k =
 
 module _ (i : BusInput) (d : VramDma) where
   one :
-      (p : BytePair) → holdsBus i ≡ true → setupStands d ≡ false → nextByteOf d .answer ≡ Pair p →
+      (p : BytePair) (k : Cause) → holdsBus i ≡ true → setupStands d ≡ false → nextByteOf d .answer ≡ Pair p k →
       (busTaken i d .pairs ≡ p ∷ busTaken i (nextByteOf d .dma) .pairs) ×
+      (busTaken i d .causes ≡ k ∷ busTaken i (nextByteOf d .dma) .causes) ×
       (busTaken i d .dma ≡ busTaken i (nextByteOf d .dma) .dma) ×
       (busTaken i d .setup ≡ false)
-  one p h c e =
+  one p k h c e =
       let still : setupStands (nextByteOf d .dma) ≡ false = ap activeOf (cells-kept d) ∙ c in
       let there : busTaken i (nextByteOf d .dma) ≡ pairsOf (nextByteOf d .dma) = moving i (nextByteOf d .dma) h still in
-      let split = moving i d h c ∙ pairs-one d p e in (
+      let split = moving i d h c ∙ pairs-one d p k e in (
         ap (λ (t : Taken). t .pairs) split ∙ ap (λ (t : Taken). p ∷ t .pairs) (sym there),
+        ap (λ (t : Taken). t .causes) split ∙ ap (λ (t : Taken). k ∷ t .causes) (sym there),
         ap (λ (t : Taken). t .dma) split ∙ ap (λ (t : Taken). t .dma) (sym there),
         ap (λ (t : Taken). t .setup) split,
       )
@@ -165,6 +169,9 @@ module _ (i : BusInput) (d : VramDma) where
         quota =
             each-kind i d (λ (t : Taken). length (t .pairs) + t .dma .cursor .quota ≡ d .cursor .quota) (λ h. omega arith)
             (λ h c. omega arith) (λ h c. pairs-quota d);
+        cause-each = bus-causes i d .each;
+        cause-of-one = bus-causes i d .one;
+        causes-of-two = bus-causes i d .two;
         hands-out = λ h c low. subst (HandsOut d) (sym (moving i d h c)) (hands d low);
         takes-cell = takes-cell;
         keeps-cells = keeps-cells;

@@ -11,10 +11,11 @@ use Rattle.console.specs.declared.vram_dma.VramDma.{VramDma}
 use Rattle.transfer.specs.Pair.{movingOf, nextByteOf}
 use Rattle.transfer.specs.PairSteps.{Ready}
 use Rattle.transfer.specs.declared.pair.BytePair.{BytePair}
+use Rattle.transfer.specs.declared.pair.Cause.{Cause}
 use Rattle.transfer.specs.declared.pair.NextAnswer.{NextAnswer}
 use Rattle.transfer.specs.declared.pair.NextAnswer.the-variants.{Pair, None}
 use Rattle.transfer.specs.declared.pair.NextByte.{NextByte}
-use Rattle.transfer.proofs.PairSteps.{pair-steps}
+use Rattle.transfer.proofs.PairSteps.{pair-steps, is-ready}
 use Rattle.bus.specs.Commit.{Taken, nothing, afterAnswer, takenOf, pairsOf, holdsBus, setupStands, withCells, cellTaken, busTaken}
 use Rattle.bus.specs.declared.commit.BusInput.{BusInput}
 
@@ -53,37 +54,25 @@ pub pairs-none : (d : VramDma) → nextByteOf d .answer ≡ None → pairsOf d �
 unfolding pairsOf
 pairs-none d h = taken-none (d .cursor .quota) d h
 
-pub no-pair : (p : BytePair) → _≡_ {A = NextAnswer} None (Pair p) → ⊥
-no-pair p e = let z : _≡_ {A = ℕ} 0 1 = cc in omega arith
-
--- a pair is answered by an engine that is ready
-pub is-ready : (d : VramDma) (p : BytePair) → nextByteOf d .answer ≡ Pair p → Ready d
-is-ready d p h = by (movingOf d) refl
-  where
-    by : (b : Bool) → movingOf d ≡ b → Ready d
-    by false m = absurd (no-pair p (sym (ap (λ (x : NextByte). x .answer) (pair-steps .not-moving d m)) ∙ h))
-    by true m =
-        ⊎-elim (λ none. absurd (no-pair p (sym (ap (λ (x : NextByte). x .answer) (pair-steps .no-quota d none)) ∙ h)))
-        (λ some. record { quota = some; moving = m }) (eq-zero-or-pos (d .cursor .quota))
-
--- and takes one from quota
-pub quota-falls : (d : VramDma) (p : BytePair) → nextByteOf d .answer ≡ Pair p → d .cursor .quota ≡ suc (nextByteOf d .dma .cursor .quota)
-quota-falls d p h = let fell = pair-steps .moves d (is-ready d p h) .quota in omega (arith, fell)
+-- a pair takes one from quota
+pub quota-falls : (d : VramDma) (p : BytePair) (k : Cause) → nextByteOf d .answer ≡ Pair p k → d .cursor .quota ≡ suc (nextByteOf d .dma .cursor .quota)
+quota-falls d p k h = let fell = pair-steps .moves d (is-ready d p k h) .quota in omega (arith, fell)
 
 -- a pair comes first, then what the engine gives after it
 pub pairs-one :
-    (d : VramDma) (p : BytePair) → nextByteOf d .answer ≡ Pair p →
-    pairsOf d ≡ record { dma = pairsOf (nextByteOf d .dma) .dma; pairs = p ∷ pairsOf (nextByteOf d .dma) .pairs; setup = false }
+    (d : VramDma) (p : BytePair) (k : Cause) → nextByteOf d .answer ≡ Pair p k →
+    (let rest = pairsOf (nextByteOf d .dma) in
+    pairsOf d ≡ record { dma = rest .dma; pairs = p ∷ rest .pairs; causes = k ∷ rest .causes; setup = false })
 unfolding pairsOf takenOf
-pairs-one d p h =
-    ap (λ (n : ℕ). takenOf n d) (quota-falls d p h) ∙
+pairs-one d p k h =
+    ap (λ (n : ℕ). takenOf n d) (quota-falls d p k h) ∙
     ap (λ (a : NextAnswer). afterAnswer d a (takenOf (nextByteOf d .dma .cursor .quota) (nextByteOf d .dma))) h
 
 -- what holds of an engine where none comes, and holds of d if it holds of the engine after its first pair, holds of d
 pub by-pairs :
     (P : VramDma → Taken → Type 0) → ((d : VramDma) → nextByteOf d .answer ≡ None → P d (nothing d)) →
-    ((d : VramDma) (p : BytePair) (t : Taken) → nextByteOf d .answer ≡ Pair p → P (nextByteOf d .dma) t →
-    P d (record { dma = t .dma; pairs = p ∷ t .pairs; setup = false })) →
+    ((d : VramDma) (p : BytePair) (k : Cause) (t : Taken) → nextByteOf d .answer ≡ Pair p k → P (nextByteOf d .dma) t →
+    P d (record { dma = t .dma; pairs = p ∷ t .pairs; causes = k ∷ t .causes; setup = false })) →
     (d : VramDma) → P d (pairsOf d)
 unfolding pairsOf takenOf
 by-pairs P none one d = taken (d .cursor .quota) d refl
@@ -96,13 +85,13 @@ by-pairs P none one d = taken (d .cursor .quota) d refl
             (a : NextAnswer) → nextByteOf d .answer ≡ a →
             (nextByteOf d .dma .cursor .quota ≡ n → P (nextByteOf d .dma) (takenOf n (nextByteOf d .dma))) →
             P d (afterAnswer d a (takenOf n (nextByteOf d .dma)))
-        step (Pair p) e rest = one d p _ e (rest (let fell = quota-falls d p e in omega arith))
+        step (Pair p k) e rest = one d p k _ e (rest (let fell = quota-falls d p k e in omega arith))
         step None e rest = none d e
 
 -- a property of engines that each pair keeps, and each set-up cell, is kept by the call
 pub pairs-keep :
     (P : VramDma → Type 0) → ((d : VramDma) → P d → P (nextByteOf d .dma)) → (d : VramDma) → P d → P (pairsOf d .dma)
-pairs-keep P pair d = by-pairs (λ d t. P d → P (t .dma)) (λ d e k. k) (λ d p t e rest k. rest (pair d k)) d
+pairs-keep P pair d = by-pairs (λ d t. P d → P (t .dma)) (λ d e h. h) (λ d p k t e rest h. rest (pair d h)) d
 
 pub bus-keeps :
     (P : VramDma → Type 0) → ((d : VramDma) → P d → P (nextByteOf d .dma)) →
@@ -111,4 +100,4 @@ bus-keeps P pair cells i d k =
     each-kind i d (λ (t : Taken). P (t .dma)) (λ h. k) (λ h c. cells d _ k) (λ h c. pairs-keep P pair d k)
 
 pub pairs-no-setup : (d : VramDma) → pairsOf d .setup ≡ false
-pairs-no-setup d = by-pairs (λ d t. t .setup ≡ false) (λ d e. refl) (λ d p t e rest. refl) d
+pairs-no-setup d = by-pairs (λ d t. t .setup ≡ false) (λ d e. refl) (λ d p k t e rest. refl) d

@@ -1,5 +1,5 @@
 -- What is shown of the bus call, in document 01's words (section 3).
-use Prim.Native.Nat.{ℕ, _+_, _-_, _<_, min}
+use Prim.Native.Nat.{ℕ, _+_, _-_, _%_, _<_, min}
 use mathlib.Core.Path.{_≡_}
 use mathlib.Core.Bool.{true, false}
 use mathlib.Core.List.{[], _∷_}
@@ -8,10 +8,13 @@ use lib.ListN.{length}
 use Rattle.countdown.specs.Countdown.{remainingOf, stepped}
 use Rattle.console.specs.declared.vram_dma.TransferMode.the-variants.{General}
 use Rattle.console.specs.declared.vram_dma.VramDma.{VramDma}
+use Rattle.transfer.specs.CauseSteps.{Caused}
 use Rattle.transfer.specs.Keeps.{KeepsMarks, SixteenBits}
 use Rattle.transfer.specs.Pair.{nextByteOf}
 use Rattle.transfer.specs.PairsLeft.{pairsLeft, movable}
 use Rattle.transfer.specs.declared.pair.BytePair.{BytePair}
+use Rattle.transfer.specs.declared.pair.Cause.{Cause}
+use Rattle.transfer.specs.declared.pair.Cause.the-variants.{GoingOn}
 use Rattle.transfer.specs.declared.pair.NextAnswer.the-variants.{Pair, None}
 use Rattle.bus.specs.Commit.{Taken, nothing, holdsBus, setupStands, withCells, busTaken}
 use Rattle.bus.specs.declared.commit.BusInput.{BusInput}
@@ -35,18 +38,27 @@ pub record BusSteps (i : BusInput) (d : VramDma) : Type 0 where
   -- "A set-up cell uses up the call."
   pub cell :
       holdsBus i ≡ true → 0 < remainingOf (d .block .«setup_cells») →
-      busTaken i d ≡ record { dma = withCells (stepped (d .block .«setup_cells»)) d; pairs = []; setup = true }
+      busTaken i d ≡ record { dma = withCells (stepped (d .block .«setup_cells»)) d; pairs = []; causes = []; setup = true }
   -- "Otherwise pairs are taken until none comes": the first one is the engine's next, the rest are those of the engine after it,
   -- and at the end there is none
   pub none : holdsBus i ≡ true → setupStands d ≡ false → nextByteOf d .answer ≡ None → busTaken i d ≡ nothing d
   pub one :
-      (p : BytePair) → holdsBus i ≡ true → setupStands d ≡ false → nextByteOf d .answer ≡ Pair p →
+      (p : BytePair) (k : Cause) → holdsBus i ≡ true → setupStands d ≡ false → nextByteOf d .answer ≡ Pair p k →
       (busTaken i d .pairs ≡ p ∷ busTaken i (nextByteOf d .dma) .pairs) ×
+      (busTaken i d .causes ≡ k ∷ busTaken i (nextByteOf d .dma) .causes) ×
       (busTaken i d .dma ≡ busTaken i (nextByteOf d .dma) .dma) ×
       (busTaken i d .setup ≡ false)
   pub ends : holdsBus i ≡ true → setupStands d ≡ false → nextByteOf (busTaken i d .dma) .answer ≡ None
   -- each of them takes 1 from quota
   pub quota : length (busTaken i d .pairs) + busTaken i d .dma .cursor .quota ≡ d .cursor .quota
+  -- each pair has its cause (document 02, A3): of one alone that of the run after the call; of two the first is going on, and the
+  -- second's register is the next
+  pub cause-each : length (busTaken i d .causes) ≡ length (busTaken i d .pairs)
+  pub cause-of-one :
+      (k : Cause) → busTaken i d .causes ≡ k ∷ [] → Caused (d .cursor .dest) (busTaken i d .dma .cursor .remaining) k
+  pub causes-of-two :
+      (j k : Cause) → busTaken i d .causes ≡ j ∷ k ∷ [] →
+      (j ≡ GoingOn) × Caused ((d .cursor .dest + 1) % 65536) (busTaken i d .dma .cursor .remaining) k
   -- how many they are, the destination being a 16-bit register
   pub hands-out : holdsBus i ≡ true → setupStands d ≡ false → d .cursor .dest < 65536 → HandsOut d (busTaken i d)
   -- a set-up cell is taken exactly where one stands and the bus is held; else the cells stay, and where none stands none comes

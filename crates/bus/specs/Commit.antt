@@ -11,6 +11,9 @@ use Rattle.console.specs.Set.{withBlockSetupCells, withDmaBlock}
 use Rattle.console.specs.declared.vram_dma.VramDma.{VramDma}
 use Rattle.transfer.specs.Pair.{nextByteOf}
 use Rattle.transfer.specs.declared.pair.BytePair.{BytePair}
+use Rattle.transfer.specs.declared.pair.Cause.{Cause}
+use Rattle.transfer.specs.declared.pair.Cause.the-variants.{GoingOn}
+use Rattle.transfer.specs.declared.pair.Causes.{Causes}
 use Rattle.transfer.specs.declared.pair.NextAnswer.{NextAnswer}
 use Rattle.transfer.specs.declared.pair.NextAnswer.the-variants.{Pair, None}
 use Rattle.bus.specs.Source.{hdmaByte}
@@ -20,18 +23,20 @@ use Rattle.bus.specs.declared.commit.Banks.{Banks}
 use Rattle.bus.specs.declared.commit.BusInput.{BusInput}
 use Rattle.bus.specs.declared.commit.Run.{Run}
 
--- the engine after a call's pairs, the pairs in order, and whether a set-up cell used up the call
+-- the engine after a call's pairs, the pairs in order with the cause of each (document 02, A3: "each pair with its own"), and
+-- whether a set-up cell used up the call
 pub record Taken : Type 0 where
   pub dma : VramDma
   pub pairs : List BytePair
+  pub causes : List Cause
   pub setup : Bool
 
 abbrev pub nothing : VramDma → Taken
-nothing d = record { dma = d; pairs = []; setup = false }
+nothing d = record { dma = d; pairs = []; causes = []; setup = false }
 
 -- "a pair is moved, anything else ends the call"
 abbrev pub afterAnswer : VramDma → NextAnswer → Taken → Taken
-afterAnswer d (Pair p) rest = record { dma = rest .dma; pairs = p ∷ rest .pairs; setup = false }
+afterAnswer d (Pair p k) rest = record { dma = rest .dma; pairs = p ∷ rest .pairs; causes = k ∷ rest .causes; setup = false }
 afterAnswer d None rest = nothing d
 
 -- at most n pairs
@@ -55,7 +60,7 @@ abbrev pub withCells : Countdown → VramDma → VramDma
 withCells cells d = withDmaBlock (withBlockSetupCells cells (d .block)) d
 
 abbrev pub cellTaken : VramDma → Taken
-cellTaken d = record { dma = withCells (ticked (d .block .«setup_cells») .next) d; pairs = []; setup = true }
+cellTaken d = record { dma = withCells (ticked (d .block .«setup_cells») .next) d; pairs = []; causes = []; setup = true }
 
 -- "A bus call neither held nor suspended does nothing. A set-up cell uses up the call. Otherwise pairs are taken"
 unfoldable pub busTaken : BusInput → VramDma → Taken
@@ -79,6 +84,16 @@ firstTwo none [] = none ∷ none ∷ []
 firstTwo none (a ∷ []) = a ∷ none ∷ []
 firstTwo none (a ∷ b ∷ more) = a ∷ b ∷ []
 
+-- a call without a pair has no cause; its places are going on
+abbrev pub noCauses : Causes
+noCauses = record { first = GoingOn; second = GoingOn }
+
+-- the same two places for the causes
+abbrev pub firstCauses : List Cause → Causes
+firstCauses [] = noCauses
+firstCauses (a ∷ []) = record { first = a; second = GoingOn }
+firstCauses (a ∷ b ∷ more) = record { first = a; second = b }
+
 -- what a call of these pairs gives
 unfoldable pub runOf : Banks → List ℕ → List ℕ → Taken → Run
 runOf banks cartridge wram t =
@@ -86,6 +101,7 @@ runOf banks cartridge wram t =
       dma = t .dma;
       count = length (t .pairs);
       pairs = firstTwo noPair (t .pairs);
+      causes = firstCauses (t .causes);
       bytes = firstTwo 0 (bytesOf banks cartridge wram (t .pairs));
       «setup_cell» = t .setup;
     }
@@ -106,10 +122,19 @@ loopOf banks cartridge wram d vram =
     record { run = runOf banks cartridge wram (pairsOf d); vram = vramAfter banks cartridge wram (pairsOf d .pairs) vram }
 
 abbrev pub restRun : VramDma → Run
-restRun d = record { dma = d; count = 0; pairs = noPair ∷ noPair ∷ []; bytes = 0 ∷ 0 ∷ []; «setup_cell» = false }
+restRun d =
+    record { dma = d; count = 0; pairs = noPair ∷ noPair ∷ []; causes = noCauses; bytes = 0 ∷ 0 ∷ []; «setup_cell» = false }
 
 abbrev pub setupRun : Countdown → VramDma → Run
-setupRun cells d = record { dma = withCells cells d; count = 0; pairs = noPair ∷ noPair ∷ []; bytes = 0 ∷ 0 ∷ []; «setup_cell» = true }
+setupRun cells d =
+    record {
+      dma = withCells cells d;
+      count = 0;
+      pairs = noPair ∷ noPair ∷ [];
+      causes = noCauses;
+      bytes = 0 ∷ 0 ∷ [];
+      «setup_cell» = true;
+    }
 
 -- the whole outcome of a bus call
 pub record Committed (banks : Banks) (i : BusInput) (d : VramDma) (cartridge wram vram oam : List ℕ) (r : Run) (lastVram lastOam : List ℕ) : Type 0 where

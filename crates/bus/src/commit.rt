@@ -1,6 +1,7 @@
 // What a bus call is given and what it gives (vram_dma.rs, `vram_dma_commit_bytes`).
 use console::vram_dma::VramDma;
 use transfer::pair::BytePair;
+use transfer::pair::Causes;
 
 // What a bus call is given.
 pub struct BusInput {
@@ -17,11 +18,12 @@ pub struct Banks {
     pub vram: u8,
 }
 
-// The pairs of a call, how many there were, and their bytes; the engine after them.
+// The pairs of a call, how many there were, their causes and their bytes; the engine after them.
 pub struct Run {
     pub dma: VramDma,
     pub count: u8,
     pub pairs: [BytePair; 2],
+    pub causes: Causes,
     pub bytes: [u8; 2],
     // The call went to a set-up cell.
     pub setup_cell: bool,

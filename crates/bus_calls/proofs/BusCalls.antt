@@ -12,7 +12,7 @@ use Rattle.bus.specs.declared.commit.BusInput.{BusInput}
 use Rattle.bus.specs.declared.commit.Run.{Run}
 use Rattle.memory.specs.Lengths.{wrongLengths}
 use Rattle.bus_calls.specs.BusCall.{Lengths, lengthsOf, busRefusal, banksOf, refusedBus, AnswersBus}
-use Rattle.bus_calls.specs.BusCall.{busPairs, busAnswer, busState, busSaid, busBytes, busVram, busOam, busOf}
+use Rattle.bus_calls.specs.BusCall.{busPairs, busCauses, busAnswer, busState, busSaid, busBytes, busVram, busOam, busOf}
 use Rattle.answers.specs.Answers.{busOutcomeSays}
 use Rattle.answers.specs.declared.BusAnswer.the-variants.{Moved}
 use Rattle.answers.specs.declared.BusOutcome.{BusOutcome}
@@ -34,7 +34,7 @@ module _ (s : Cgb) (n : Lengths) where
 -- the call's result from its part's
 abbrev movedOf : Cgb → Run → BusOutcome
 movedOf s r =
-    record { answer = Moved (r .count) (r .«setup_cell»); pairs = r .pairs; bytes = r .bytes; state = withVramDma (r .dma) s }
+    record { answer = Moved (r .count) (r .«setup_cell»); pairs = r .pairs; causes = r .causes; bytes = r .bytes; state = withVramDma (r .dma) s }
 
 module _ (s : Cgb) (i : BusInput) (cartridge wram vram oam : List ℕ) where
   says :
@@ -44,7 +44,7 @@ module _ (s : Cgb) (i : BusInput) (cartridge wram vram oam : List ℕ) where
   pub bus-declined :
       (r : BusOutcome) (k : ℕ) → busRefusal s (lengthsOf cartridge wram vram oam) ≡ k → eqb k 0 ≡ false → r ≡ refusedBus k s →
       AnswersBus s i cartridge wram vram oam r vram oam
-  unfolding busOf busPairs busAnswer busState busBytes busVram busOam bytesOf
+  unfolding busOf busPairs busCauses busAnswer busState busBytes busVram busOam bytesOf
   bus-declined r k refused some is =
       let result : r ≡ busOf s i cartridge wram vram oam = is ∙ rw (refused, some) in
       record { result = result; says = says r result; stored = rw (refused, some); deposit = rw (refused, some) }
@@ -53,7 +53,7 @@ module _ (s : Cgb) (i : BusInput) (cartridge wram vram oam : List ℕ) where
       (run : Run) (lastVram lastOam : List ℕ) → busRefusal s (lengthsOf cartridge wram vram oam) ≡ 0 →
       Committed (banksOf s) i (s .«vram_dma») cartridge wram vram oam run lastVram lastOam →
       AnswersBus s i cartridge wram vram oam (movedOf s run) lastVram lastOam
-  unfolding busOf busPairs busAnswer busState busBytes busVram busOam runOf
+  unfolding busOf busPairs busCauses busAnswer busState busBytes busVram busOam runOf
   bus-moved run lastVram lastOam zero c =
       let result : movedOf s run ≡ busOf s i cartridge wram vram oam = ap (movedOf s) (c .result) ∙ rw zero in
       record { result = result; says = says _ result; stored = c .stored ∙ rw zero; deposit = c .deposit ∙ rw zero }

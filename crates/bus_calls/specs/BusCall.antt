@@ -11,11 +11,12 @@ use Rattle.console.specs.Refusals.{_⇒_, firstOf, answered}
 use Rattle.console.specs.Set.{withVramDma}
 use Rattle.console.specs.declared.Cgb.{Cgb}
 use Rattle.memory.specs.Lengths.{wrongLengths}
-use Rattle.bus.specs.Commit.{Taken, busTaken, bytesOf, vramAfter, oamAfter, firstTwo}
+use Rattle.bus.specs.Commit.{Taken, busTaken, bytesOf, vramAfter, oamAfter, firstTwo, noCauses, firstCauses}
 use Rattle.bus.specs.Deposit.{noPair}
 use Rattle.bus.specs.declared.commit.Banks.{Banks}
 use Rattle.bus.specs.declared.commit.BusInput.{BusInput}
 use Rattle.transfer.specs.declared.pair.BytePair.{BytePair}
+use Rattle.transfer.specs.declared.pair.Cause.{Cause}
 use Rattle.answers.specs.Answers.{Said, saying, bitOf, kept, busOutcomeSays}
 use Rattle.answers.specs.declared.BusAnswer.{BusAnswer}
 use Rattle.answers.specs.declared.BusAnswer.the-variants.{Moved, Refused}
@@ -47,6 +48,10 @@ takenIn s i = busTaken i (s .«vram_dma»)
 unfoldable pub busPairs : Cgb → BusInput → Lengths → List BytePair
 busPairs s i n = cond (eqb (busRefusal s n) 0) (takenIn s i .pairs) []
 
+-- "each pair with its own" (document 02, A3)
+unfoldable pub busCauses : Cgb → BusInput → Lengths → List Cause
+busCauses s i n = cond (eqb (busRefusal s n) 0) (takenIn s i .causes) []
+
 -- how many, and whether a set-up cell used up the call
 unfoldable pub busAnswer : Cgb → BusInput → Lengths → BusAnswer
 busAnswer s i n = answered (busRefusal s n) Refused (Moved (length (takenIn s i .pairs)) (takenIn s i .setup))
@@ -70,20 +75,21 @@ unfoldable pub busOam : Cgb → BusInput → Lengths → List ℕ → List ℕ �
 busOam s i n cartridge wram oam =
     cond (eqb (busRefusal s n) 0) (oamAfter (banksOf s) i cartridge wram (s .«vram_dma») (takenIn s i .pairs) oam) oam
 
--- the result: pairs and bytes in arrays of two, the spare places 0
+-- the result: pairs, causes and bytes in two places each, the spare ones 0 and going on
 unfoldable pub busOf : Cgb → BusInput → List ℕ → List ℕ → List ℕ → List ℕ → BusOutcome
 busOf s i cartridge wram vram oam =
     let n = lengthsOf cartridge wram vram oam in
     record {
       answer = busAnswer s i n;
       pairs = firstTwo noPair (busPairs s i n);
+      causes = firstCauses (busCauses s i n);
       bytes = firstTwo 0 (busBytes s i n cartridge wram);
       state = busState s i n;
     }
 
 abbrev pub refusedBus : ℕ → Cgb → BusOutcome
 refusedBus number s =
-    record { answer = Refused number; pairs = noPair ∷ noPair ∷ []; bytes = 0 ∷ 0 ∷ []; state = s }
+    record { answer = Refused number; pairs = noPair ∷ noPair ∷ []; causes = noCauses; bytes = 0 ∷ 0 ∷ []; state = s }
 
 -- the whole outcome of a bus call: result, what its answer says, VRAM and OAM at exit
 pub record AnswersBus (s : Cgb) (i : BusInput) (cartridge wram vram oam : List ℕ) (r : BusOutcome) (lastVram lastOam : List ℕ) : Type 0 where

@@ -8,6 +8,8 @@ use bus::commit::BusInput;
 use console::Cgb;
 use console::refusal;
 use transfer::pair::BytePair;
+use transfer::pair::Cause;
+use transfer::pair::Causes;
 
 fn refused(state: Cgb, number: u8) -> BusOutcome
     ensures { λ r. ⌜ r ≡ refusedBus number state ⌝ }
@@ -15,6 +17,10 @@ fn refused(state: Cgb, number: u8) -> BusOutcome
     BusOutcome {
         answer: BusAnswer::Refused(number),
         pairs: [BytePair { source: 0, dest: 0 }; 2],
+        causes: Causes {
+            first: Cause::GoingOn,
+            second: Cause::GoingOn,
+        },
         bytes: [0u8; 2],
         state: rebuild::cgb(state),
     }
@@ -43,6 +49,7 @@ pub fn vram_dma_commit_bytes(
     };
     let run = bus_commit::commit_bytes(state.vram_dma, banks, input, cartridge, wram, vram, oam);
     let pairs = run.pairs;
+    let causes = run.causes;
     let bytes = run.bytes;
     let after = rebuild::with_vram_dma(state, run.dma);
     BusOutcome {
@@ -51,6 +58,7 @@ pub fn vram_dma_commit_bytes(
             setup_cell: run.setup_cell,
         },
         pairs: pairs,
+        causes: causes,
         bytes: bytes,
         state: after,
     }

@@ -7,6 +7,8 @@ use bus::commit::Run;
 use console::vram_dma::VramDma;
 use countdown::Countdown;
 use transfer::pair::BytePair;
+use transfer::pair::Cause;
+use transfer::pair::Causes;
 
 // A call that moves nothing.
 fn rest(d: VramDma) -> Run
@@ -16,6 +18,10 @@ fn rest(d: VramDma) -> Run
         dma: d,
         count: 0,
         pairs: [BytePair { source: 0, dest: 0 }; 2],
+        causes: Causes {
+            first: Cause::GoingOn,
+            second: Cause::GoingOn,
+        },
         bytes: [0u8; 2],
         setup_cell: false,
     }
@@ -31,6 +37,10 @@ fn setup(d: VramDma, cells: Countdown) -> Run
         dma: dma,
         count: 0,
         pairs: [BytePair { source: 0, dest: 0 }; 2],
+        causes: Causes {
+            first: Cause::GoingOn,
+            second: Cause::GoingOn,
+        },
         bytes: [0u8; 2],
         setup_cell: true,
     }

@@ -12,7 +12,7 @@ pub use Rattle.transfer_calls.specs.Pair.{pairAnswerOf}
 unfoldable pub use Rattle.transfer_calls.specs.Pair.{nextPairOf, nextPairSaid}
 pub use Rattle.bus_calls.specs.BusCall.{Lengths, lengthsOf, takenIn, AnswersBus}
 unfoldable pub use Rattle.memory.specs.Lengths.{wrongLengths}
-unfoldable pub use Rattle.bus_calls.specs.BusCall.{busRefusal, busPairs, busAnswer, busState, busSaid, busBytes, busVram, busOam, busOf}
+unfoldable pub use Rattle.bus_calls.specs.BusCall.{busRefusal, busPairs, busCauses, busAnswer, busState, busSaid, busBytes, busVram, busOam, busOf}
 pub use Rattle.bus_calls.specs.Bus.{arbitrationAnswerOf, arbitrated}
 unfoldable pub use Rattle.bus_calls.specs.Bus.{arbitrationCallOf, arbitrationSaid}
 -- section 4: the switch, the escape drain, LCD off, the write conflict, blackout and wake

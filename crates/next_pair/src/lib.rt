@@ -33,11 +33,15 @@ pub fn next_byte(d: VramDma) -> NextByte
     if ready {
         let dest = advance::write_address(d.cursor);
         let dma = advance::advance(d);
+        let cause = advance::cause(d.cursor.dest == 0xFFFF, dma.cursor.remaining);
         return NextByte {
-            answer: NextAnswer::Pair(BytePair {
-                source: d.cursor.source,
-                dest: dest,
-            }),
+            answer: NextAnswer::Pair(
+                BytePair {
+                    source: d.cursor.source,
+                    dest: dest,
+                },
+                cause,
+            ),
             dma: dma,
         };
     }
@@ -58,14 +62,14 @@ pub fn drain_escape(d: VramDma) -> NextByte
         let next = next_byte(one);
         let answer = next.answer;
         let dma = next.dma;
-        let NextAnswer::Pair(pair) = answer else {
+        let NextAnswer::Pair(pair, cause) = answer else {
             return NextByte {
                 answer: NextAnswer::None,
                 dma: dma,
             };
         };
         return NextByte {
-            answer: NextAnswer::Pair(pair),
+            answer: NextAnswer::Pair(pair, cause),
             dma: dma,
         };
     }

@@ -7,7 +7,7 @@ use lib.Dec.{ltb}
 use Rattle.console.specs.declared.vram_dma.VramDma.{VramDma}
 use Rattle.transfer.specs.Keeps.{KeepsMarks, SixteenBits, Keeps}
 use Rattle.transfer.specs.Latch.{latchedBlock, latchedOf, unclaimed, latchesDark, lcdDisabledOf, retiredOf}
-use Rattle.transfer.specs.Pair.{movingOf, cursorAfter, blockAfter, arbAfter, advancedOf, pairOf, nextByteOf, withQuota, drainOf}
+use Rattle.transfer.specs.Pair.{movingOf, cursorAfter, blockAfter, arbAfter, advancedOf, pairOf, causeOf, nextByteOf, withQuota, drainOf}
 use Rattle.transfer.specs.declared.pair.NextAnswer.the-variants.{Pair, None}
 use Rattle.transfer.specs.declared.pair.NextByte.{NextByte}
 
@@ -21,7 +21,8 @@ next-keeps P d same moved = by (ltb 0 (d .cursor .quota) && movingOf d)
   where
     by :
         (b : Bool) →
-        P (cond {A = NextByte} b (record { answer = Pair (pairOf (d .cursor)); dma = advancedOf d }) (record { answer = None; dma = d }) .dma)
+        (let taken : NextByte = record { answer = Pair (pairOf (d .cursor)) (causeOf (d .cursor)); dma = advancedOf d } in
+        P (cond b taken (record { answer = None; dma = d }) .dma))
     by true = moved
     by false = same
 

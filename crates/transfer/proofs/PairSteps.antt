@@ -1,7 +1,7 @@
 -- The pair and the escape drain do what document 01 says of them (specs, `PairSteps`). Assumes nothing.
-use Prim.Native.Nat.{_-_, _<_}
+use Prim.Native.Nat.{ℕ, _-_, _<_}
 use native.Mathlib.Omega.{arith}
-use mathlib.Core.Path.{_≡_, refl, sym, _∙_}
+use mathlib.Core.Path.{_≡_, refl, sym, ap, _∙_}
 use mathlib.Core.Bool.{Bool, true, false, not, _&&_, _||_, and-true, and-false, false≢true}
 use mathlib.Core.Logic.{⊎-elim}
 use native.Mathlib.Nat.{eq-zero-or-pos}
@@ -10,9 +10,13 @@ use borrow.Author.Tests.{lt-ltb, le-ltb, eq-eqb, ne-eqb}
 use Rattle.countdown.specs.Countdown.{activeOf}
 use Rattle.console.specs.Modes.{isGeneral}
 use Rattle.console.specs.declared.vram_dma.VramDma.{VramDma}
-use Rattle.transfer.specs.Pair.{movingOf, cursorAfter, blockAfter, arbAfter, pairOf, advancedOf, nextByteOf, withQuota, drainOf}
+use Rattle.transfer.specs.Pair.{movingOf, cursorAfter, blockAfter, arbAfter, pairOf, causeOf, advancedOf, nextByteOf, withQuota, drainOf}
 use Rattle.transfer.specs.PairSteps.{Ready, Moved, PairSteps}
+use Rattle.transfer.specs.declared.pair.BytePair.{BytePair}
+use Rattle.transfer.specs.declared.pair.Cause.{Cause}
+use Rattle.transfer.specs.declared.pair.NextAnswer.{NextAnswer}
 use Rattle.transfer.specs.declared.pair.NextAnswer.the-variants.{Pair, None}
+use Rattle.transfer.specs.declared.pair.NextByte.{NextByte}
 
 -- bytes are left wherever the engine moves
 still : (b g r : Bool) → ((b && false && r) || (g && false)) ≡ false
@@ -33,20 +37,20 @@ unfolding advancedOf blockAfter
 block-falls d = refl
 
 module _ (d : VramDma) (r : Ready d) where
-  pub steps : nextByteOf d ≡ record { answer = Pair (pairOf (d .cursor)); dma = advancedOf d }
+  pub steps : nextByteOf d ≡ record { answer = Pair (pairOf (d .cursor)) (causeOf (d .cursor)); dma = advancedOf d }
   unfolding nextByteOf
   steps = rw (lt-ltb 0 (d .cursor .quota) (r .quota), r .moving)
 
   -- where the engine moves, something is left
-  left : 0 < d .cursor .remaining
-  left = ⊎-elim (λ none. absurd (false≢true (sym (never d none) ∙ r .moving))) (λ some. some) (eq-zero-or-pos (d .cursor .remaining))
+  pub some-left : 0 < d .cursor .remaining
+  some-left = ⊎-elim (λ none. absurd (false≢true (sym (never d none) ∙ r .moving))) (λ some. some) (eq-zero-or-pos (d .cursor .remaining))
 
   moved : Moved d (advancedOf d)
   unfolding advancedOf cursorAfter blockAfter arbAfter
   moved =
       record {
         quota = omega (arith, r .quota);
-        counted = λ unpaid inside. rw (ne-eqb _ _ inside, unpaid) (omega (arith, left));
+        counted = λ unpaid inside. rw (ne-eqb _ _ inside, unpaid) (omega (arith, some-left));
         escaped = λ owed inside. rw (ne-eqb _ _ inside, owed);
         paid = refl;
         block = block-falls d;
@@ -81,13 +85,13 @@ both true true p q = refl
 both true false p q = q
 both false b p q = p
 
-drained : (d : VramDma) → d .cursor .«escape_byte» ≡ true → movingOf d ≡ true → drainOf d ≡ nextByteOf (withQuota 1 d)
+pub drained : (d : VramDma) → d .cursor .«escape_byte» ≡ true → movingOf d ≡ true → drainOf d ≡ nextByteOf (withQuota 1 d)
 unfolding drainOf
 drained d owed moving = rw (both (d .cursor .«escape_byte») (movingOf d) owed moving)
 
 drains :
     (d : VramDma) → d .cursor .«escape_byte» ≡ true → movingOf d ≡ true →
-    (drainOf d .answer ≡ Pair (pairOf (d .cursor))) × (drainOf d .dma .cursor .quota ≡ 0)
+    (drainOf d .answer ≡ Pair (pairOf (d .cursor)) (causeOf (d .cursor))) × (drainOf d .dma .cursor .quota ≡ 0)
 unfolding advancedOf cursorAfter
 drains d owed moving = rw (drained d owed moving, steps (withQuota 1 d) (one d moving)) (refl, refl)
 
@@ -119,3 +123,16 @@ pair-steps =
       none-owed = none-owed;
       owed-still = owed-still;
     }
+
+pub no-pair : (p : BytePair) (k : Cause) → _≡_ {A = NextAnswer} None (Pair p k) → ⊥
+no-pair p k e = let z : _≡_ {A = ℕ} 0 1 = cc in omega arith
+
+-- a pair is answered by an engine that is ready
+pub is-ready : (d : VramDma) (p : BytePair) (k : Cause) → nextByteOf d .answer ≡ Pair p k → Ready d
+is-ready d p k h = by (movingOf d) refl
+  where
+    by : (b : Bool) → movingOf d ≡ b → Ready d
+    by false m = absurd (no-pair p k (sym (ap (λ (x : NextByte). x .answer) (not-moving d m)) ∙ h))
+    by true m =
+        ⊎-elim (λ none. absurd (no-pair p k (sym (ap (λ (x : NextByte). x .answer) (no-quota d none)) ∙ h)))
+        (λ some. record { quota = some; moving = m }) (eq-zero-or-pos (d .cursor .quota))

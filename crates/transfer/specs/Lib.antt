@@ -7,3 +7,4 @@ pub mod QuestionSteps
 pub mod LcdSteps
 pub mod PairsLeft
 pub mod Keeps
+pub mod CauseSteps

@@ -14,6 +14,8 @@ use Rattle.console.specs.declared.vram_dma.TransferMode.the-variants as mode
 use Rattle.console.specs.declared.vram_dma.VramDma.{VramDma}
 use Rattle.transfer.specs.Questions.{writeAddress}
 use Rattle.transfer.specs.declared.pair.BytePair.{BytePair}
+use Rattle.transfer.specs.declared.pair.Cause.{Cause}
+use Rattle.transfer.specs.declared.pair.Cause.the-variants.{GoingOn, CountedOut, Carried}
 use Rattle.transfer.specs.declared.pair.NextAnswer.the-variants.{Pair, None}
 use Rattle.transfer.specs.declared.pair.NextByte.{NextByte}
 
@@ -63,11 +65,19 @@ advancedOf d =
 abbrev pub pairOf : TransferCursor → BytePair
 pairOf c = record { source = c .source; dest = writeAddress c }
 
+-- document 02, A3: "one of going on, counted out (left fell to 0), or carried (past FFFFh), this also where left would have
+-- reached 0 anyway"; by whether the destination carries, and what is left after the pair
+abbrev pub causeIf : Bool → ℕ → Cause
+causeIf carries left = cond carries Carried (cond (eqb left 0) CountedOut GoingOn)
+
+abbrev pub causeOf : TransferCursor → Cause
+causeOf c = causeIf (eqb (c .dest) 0xFFFF) (leftAfter c)
+
 -- "if quota > 0 and the engine is moving, else None and no change"
 unfoldable pub nextByteOf : VramDma → NextByte
 nextByteOf d =
     cond (ltb 0 (d .cursor .quota) && movingOf d)
-    (record { answer = Pair (pairOf (d .cursor)); dma = advancedOf d })
+    (record { answer = Pair (pairOf (d .cursor)) (causeOf (d .cursor)); dma = advancedOf d })
     (record { answer = None; dma = d })
 
 abbrev pub withQuota : ℕ → VramDma → VramDma

@@ -6,7 +6,7 @@ use Rattle.console.specs.Set.{withBlockRemaining, withBlockFromArm, withArbGran
 use Rattle.console.specs.Set.{withDmaCursor, withDmaBlock, withDmaArb}
 use Rattle.console.specs.declared.vram_dma.TransferMode.the-variants as mode
 use Rattle.console.specs.declared.vram_dma.VramDma.{VramDma}
-use Rattle.transfer.specs.Pair.{movingOf, pairOf, nextByteOf, withQuota, drainOf}
+use Rattle.transfer.specs.Pair.{movingOf, pairOf, causeOf, nextByteOf, withQuota, drainOf}
 use Rattle.transfer.specs.declared.pair.NextAnswer.the-variants.{Pair, None}
 
 -- "if quota > 0 and the engine is moving"
@@ -56,7 +56,7 @@ pub record PairSteps : Type 0 where
   -- "At left 0 the engine never moves, whatever block stands and even with an escape owed"
   pub never : (d : VramDma) → d .cursor .remaining ≡ 0 → movingOf d ≡ false
   -- "A next-pair call gives (source, 8000h + destination mod 8192) if quota > 0 and the engine is moving"
-  pub gives : (d : VramDma) → Ready d → nextByteOf d .answer ≡ Pair (pairOf (d .cursor))
+  pub gives : (d : VramDma) → Ready d → nextByteOf d .answer ≡ Pair (pairOf (d .cursor)) (causeOf (d .cursor))
   pub moves : (d : VramDma) → Ready d → Moved d (nextByteOf d .dma)
   -- "else None and no change"
   pub no-quota : (d : VramDma) → d .cursor .quota ≡ 0 → nextByteOf d ≡ record { answer = None; dma = d }
@@ -64,7 +64,7 @@ pub record PairSteps : Type 0 where
   -- "An escape drain hands out one pair if an escape is owed and the engine moves, and then leaves quota 0"
   pub drains :
       (d : VramDma) → d .cursor .«escape_byte» ≡ true → movingOf d ≡ true →
-      (drainOf d .answer ≡ Pair (pairOf (d .cursor))) × (drainOf d .dma .cursor .quota ≡ 0)
+      (drainOf d .answer ≡ Pair (pairOf (d .cursor)) (causeOf (d .cursor))) × (drainOf d .dma .cursor .quota ≡ 0)
   -- and the engine after it is that of a pair: the drain brings a quota of 1 for it, whatever quota stood
   pub drain-moves : (d : VramDma) → d .cursor .«escape_byte» ≡ true → movingOf d ≡ true → Moved (withQuota 1 d) (drainOf d .dma)
   -- "else it changes nothing"

@@ -7,9 +7,25 @@ pub struct BytePair {
     pub dest: u16,
 }
 
-// `Option<(u16, u16)>` in the Rust.
+// How the run goes on after a pair (document 02, A3).
+pub enum Cause {
+    // Bytes are left.
+    GoingOn,
+    // Left fell to 0.
+    CountedOut,
+    // The destination went past FFFFh, which ends the run whatever was left.
+    Carried,
+}
+
+// The causes of a bus call's pairs, in order; a spare one is `GoingOn`.
+pub struct Causes {
+    pub first: Cause,
+    pub second: Cause,
+}
+
+// `Option<(u16, u16)>` in the Rust; the cause stands beside the pair.
 pub enum NextAnswer {
-    Pair(BytePair),
+    Pair(BytePair, Cause),
     None,
 }
 

@@ -14,7 +14,7 @@ use Rattle.transfer_calls.specs.Pair.{pairAnswerOf, nextPairOf, nextPair
 
 -- what the transfer answers is accepted
 pub pair-said : (a : NextAnswer) → pairSays (pairAnswerOf a) ≡ accepted (pairSays (pairAnswerOf a) .values)
-pair-said (next.Pair p) = refl
+pair-said (next.Pair p k) = refl
 pair-said next.None = refl
 
 module _ (s : Cgb) where

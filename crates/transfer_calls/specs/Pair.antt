@@ -12,7 +12,7 @@ use Rattle.answers.specs.declared.PairAnswer.{PairAnswer}
 use Rattle.answers.specs.declared.PairAnswer.the-variants.{Pair, None, Refused}
 
 abbrev pub pairAnswerOf : NextAnswer → PairAnswer
-pairAnswerOf (next.Pair p) = Pair p
+pairAnswerOf (next.Pair p k) = Pair p k
 pairAnswerOf next.None = None
 
 -- a call that gives what the engine hands out

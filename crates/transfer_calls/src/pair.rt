@@ -11,10 +11,10 @@ use transfer::pair::NextAnswer;
 fn handed(answer: NextAnswer) -> PairAnswer
     ensures { λ r. ⌜ r ≡ pairAnswerOf answer ⌝ }
 {
-    let NextAnswer::Pair(pair) = answer else {
+    let NextAnswer::Pair(pair, cause) = answer else {
         return PairAnswer::None;
     };
-    PairAnswer::Pair(pair)
+    PairAnswer::Pair(pair, cause)
 }
 
 pub fn next_byte(state: Cgb) -> Handed

@@ -18,7 +18,7 @@ returns-2 c =
 
 returns-3 : tie.Need-returns-3
 returns-3 c =
-    let run = c .before .before .before .before .before .before .before in
+    let run = c .before .before .before .before .before .before .before .before in
     let at = run .before .before .before in
     let reached = sym (at .before .before .before .unreached .ensures) ∙ at .before .before .if1 .left in
     let right = sym (at .before .wrong-lengths .ensures) ∙ at .if2 .left in
