@@ -31,10 +31,13 @@ use Rattle.transfer.specs.Pair.{nextByteOf, drainOf}
 use Rattle.transfer.specs.declared.Conflict.{Conflict}
 use Rattle.transfer.specs.declared.Conflict.the-variants as found
 use Rattle.transfer.specs.declared.pair.BytePair.{BytePair}
+use Rattle.transfer.specs.declared.pair.Cause.{Cause}
 use Rattle.transfer.specs.declared.pair.NextAnswer.{NextAnswer}
 use Rattle.transfer.specs.declared.pair.NextAnswer.the-variants as next
+use Rattle.transfer.specs.declared.pair.NextByte.{NextByte}
 use Rattle.engine.specs.Calls.{pageAbove, readRefusal, writeRefusal, accessRefusal, writeOf, fallen, fallRefusal, fallenState, fallCallOf, pairAnswerOf}
-use Rattle.engine.specs.Calls.{Lengths, nextPairOf, takenIn, wrongLengths, busRefusal, busPairs, busState, arbitrationAnswerOf, arbitrated, arbitrationCallOf}
+use Rattle.engine.specs.Calls.{Lengths, nextPairOf, takenIn, wrongLengths, busRefusal, busPairs, busCauses, busState}
+use Rattle.engine.specs.Calls.{arbitrationAnswerOf, arbitrated, arbitrationCallOf}
 use Rattle.engine.specs.Calls.{switchAnswerOf, defers, switchRefusal, switchCallOf, blackoutCallOf, wakeCallOf, escapeDrainOf, lcdCallOf}
 use Rattle.engine.specs.Calls.{retiredCallOf, conflictAnswerOf, conflictCallOf, insideArbitration, insideBus, cycleRefusal, afterCycle, cycleState}
 use Rattle.answers.specs.Answers.{Said, kept, stateRefusal}
@@ -58,27 +61,32 @@ use Rattle.ask.specs.Ask.{askedOf}
 use Rattle.ask.proofs.Asked.{asked-said}
 use Rattle.ledger.specs.LedgerInput.{accepts}
 use Rattle.ledger.specs.Calls
-use Rattle.ledger.specs.Calls.{Call, Query, Outcome, handing, plain, pairsIn, isCut, step}
+use Rattle.ledger.specs.Calls.{Call, Query, Outcome, handing, plain, pairsIn, causesIn, isCut, step}
 
 -- what an accepted call gives
 pub record Given : Type 0 where
   pub pairs : List BytePair
   pub cut : Bool
   pub committed : Bool
+  pub causes : List Cause
   pub state : Cgb
 
 abbrev pub quiet : Cgb → Given
-quiet s = record { pairs = []; cut = false; committed = false; state = s }
+quiet s = record { pairs = []; cut = false; committed = false; causes = []; state = s }
 
-abbrev pub giving : List BytePair → Cgb → Given
-giving pairs s = record { pairs = pairs; cut = false; committed = false; state = s }
+abbrev pub giving : List BytePair → List Cause → Cgb → Given
+giving pairs causes s = record { pairs = pairs; cut = false; committed = false; causes = causes; state = s }
 
 abbrev pub accepting : Given → Outcome
-accepting g = record { reply = record { number = 0; pairs = g .pairs; cut = g .cut; committed = g .committed }; state = g .state }
+accepting g =
+    record {
+      reply = record { number = 0; pairs = g .pairs; cut = g .cut; committed = g .committed; causes = g .causes };
+      state = g .state;
+    }
 
 -- declined, with this number
 abbrev pub declined : ℕ → Cgb → Outcome
-declined k s = record { reply = handing k []; state = s }
+declined k s = record { reply = handing k [] []; state = s }
 
 -- accepted where the number is 0
 unfoldable pub decided : ℕ → Cgb → Given → Outcome
@@ -132,27 +140,28 @@ by-number k s = by (eqb k 0) refl
     by false e = refl
 
 -- a number, and another state where there is none
-by-state : (k : ℕ) (s t : Cgb) → _≡_ {A = Outcome} (record { reply = handing k []; state = kept k s t }) (decided k s (quiet t))
+by-state : (k : ℕ) (s t : Cgb) → _≡_ {A = Outcome} (record { reply = handing k [] []; state = kept k s t }) (decided k s (quiet t))
 unfolding decided
 by-state k s t = by (eqb k 0) refl
   where
     by :
         (b : Bool) → eqb k 0 ≡ b →
-        _≡_ {A = Outcome} (record { reply = handing k []; state = cond b t s }) (cond b (accepting (quiet t)) (declined k s))
-    by true e = ap (λ (n : ℕ). record { reply = handing n []; state = t }) (eqb-true k 0 e)
+        _≡_ {A = Outcome} (record { reply = handing k [] []; state = cond b t s }) (cond b (accepting (quiet t)) (declined k s))
+    by true e = ap (λ (n : ℕ). record { reply = handing n [] []; state = t }) (eqb-true k 0 e)
     by false e = refl
 
 by-pairs :
-    (k : ℕ) (ps : List BytePair) (s t : Cgb) →
-    _≡_ {A = Outcome} (record { reply = handing k (cond (eqb k 0) ps []); state = kept k s t }) (decided k s (giving ps t))
+    (k : ℕ) (ps : List BytePair) (ks : List Cause) (s t : Cgb) →
+    _≡_ {A = Outcome} (record { reply = handing k (cond (eqb k 0) ps []) (cond (eqb k 0) ks []); state = kept k s t })
+    (decided k s (giving ps ks t))
 unfolding decided
-by-pairs k ps s t = by (eqb k 0) refl
+by-pairs k ps ks s t = by (eqb k 0) refl
   where
     by :
         (b : Bool) → eqb k 0 ≡ b →
-        _≡_ {A = Outcome} (record { reply = handing k (cond b ps []); state = cond b t s })
-        (cond b (accepting (giving ps t)) (declined k s))
-    by true e = ap (λ (n : ℕ). record { reply = handing n ps; state = t }) (eqb-true k 0 e)
+        _≡_ {A = Outcome} (record { reply = handing k (cond b ps []) (cond b ks []); state = cond b t s })
+        (cond b (accepting (giving ps ks t)) (declined k s))
+    by true e = ap (λ (n : ℕ). record { reply = handing n ps ks; state = t }) (eqb-true k 0 e)
     by false e = refl
 
 -- what a query says: its number is k
@@ -165,10 +174,14 @@ query-number says refuse k good a d = by (eqb k 0) refl
     by true e = a ∙ sym (eqb-true k 0 e)
     by false e = d k
 
--- the pair of an answer, and whether an outcome is a cut
+-- the pair of an answer with its cause, and whether an outcome is a cut
 abbrev pub pairOf : NextAnswer → List BytePair
-pairOf (next.Pair p) = p ∷ []
+pairOf (next.Pair p k) = p ∷ []
 pairOf next.None = []
+
+abbrev pub causeOf : NextAnswer → List Cause
+causeOf (next.Pair p k) = k ∷ []
+causeOf next.None = []
 
 abbrev pub cuts : SwitchOutcome → Bool
 cuts outcome.None = false
@@ -177,21 +190,21 @@ cuts outcome.Cut = true
 
 -- how the answers that are made from another read
 abbrev handedReads : PairAnswer → Cgb → Outcome
-handedReads a s = record { reply = handing (pairSays a .number) (pairsIn a); state = s }
+handedReads a s = record { reply = handing (pairSays a .number) (pairsIn a) (causesIn a); state = s }
 
 abbrev fellReads : ClaimAnswer → Cgb → Outcome
-fellReads a s = record { reply = record { number = claimSays a .number; pairs = []; cut = false; committed = tellsCommit a }; state = s }
+fellReads a s = record { reply = record { number = claimSays a .number; pairs = []; cut = false; committed = tellsCommit a; causes = [] }; state = s }
 
 abbrev switchedReads : SwitchAnswer → Cgb → Outcome
-switchedReads a s = record { reply = record { number = switchSays a .number; pairs = []; cut = isCut a; committed = false }; state = s }
+switchedReads a s = record { reply = record { number = switchSays a .number; pairs = []; cut = isCut a; committed = false; causes = [] }; state = s }
 
-handed : (a : NextAnswer) (t : Cgb) → handedReads (pairAnswerOf a) t ≡ accepting (giving (pairOf a) t)
-handed (next.Pair p) t = refl
+handed : (a : NextAnswer) (t : Cgb) → handedReads (pairAnswerOf a) t ≡ accepting (giving (pairOf a) (causeOf a) t)
+handed (next.Pair p k) t = refl
 handed next.None t = refl
 
 switched :
     (o : SwitchOutcome) (t : Cgb) →
-    switchedReads (switchAnswerOf o) t ≡ accepting (record { pairs = []; cut = cuts o; committed = false; state = t })
+    switchedReads (switchAnswerOf o) t ≡ accepting (record { pairs = []; cut = cuts o; committed = false; causes = []; state = t })
 switched outcome.None t = refl
 switched outcome.Discarded t = refl
 switched outcome.Cut t = refl
@@ -247,22 +260,26 @@ numberOf s c = firstOf ((unreached s ⇒ 7) ∷ reasonsOf s c)
 
 -- what a bus call gives, of either form, and what arbitration does
 abbrev pub bussed : Cgb → BusInput → Given
-bussed s i = giving (takenIn s i .pairs) (withVramDma (takenIn s i .dma) s)
+bussed s i = giving (takenIn s i .pairs) (takenIn s i .causes) (withVramDma (takenIn s i .dma) s)
 
 abbrev pub contending : Cgb → ArbitrationInput → Given
 contending s i = quiet (withVramDma (withDmaOam (arbitrated s i .oam) (s .«vram_dma»)) s)
+
+-- what a call gives that hands on what the engine answers
+abbrev pub handing-on : Cgb → NextByte → Given
+handing-on s n = giving (pairOf (n .answer)) (causeOf (n .answer)) (withVramDma (n .dma) s)
 
 -- what it gives where it is accepted
 abbrev pub givenBy : Cgb → Call → Given
 givenBy s (Calls.write a w n byte) = quiet (mapWriteOf s w a .state)
 givenBy s (Calls.read a n) = quiet s
 givenBy s (Calls.fall i) =
-    record { pairs = []; cut = false; committed = fallen s i .claim .committed; state = fallenState (fallen s i) s }
-givenBy s Calls.next-pair = giving (pairOf (nextByteOf (s .«vram_dma») .answer)) (withVramDma (nextByteOf (s .«vram_dma») .dma) s)
-givenBy s Calls.escape-drain = giving (pairOf (drainOf (s .«vram_dma») .answer)) (withVramDma (drainOf (s .«vram_dma») .dma) s)
+    record { pairs = []; cut = false; committed = fallen s i .claim .committed; causes = []; state = fallenState (fallen s i) s }
+givenBy s Calls.next-pair = handing-on s (nextByteOf (s .«vram_dma»))
+givenBy s Calls.escape-drain = handing-on s (drainOf (s .«vram_dma»))
 givenBy s (Calls.bus-call i n) = bussed s i
 givenBy s (Calls.switch-speed i) =
-    record { pairs = []; cut = cuts (switchedOf i s .outcome); committed = false; state = switchedOf i s .state }
+    record { pairs = []; cut = cuts (switchedOf i s .outcome); committed = false; causes = []; state = switchedOf i s .state }
 givenBy s Calls.lcd-off = quiet (withVramDma (lcdDisabledOf (s .«vram_dma»)) (withSwitchRelockDebit false s))
 givenBy s Calls.retired = quiet (withVramDma (retiredOf (s .«vram_dma»)) s)
 givenBy s (Calls.blackout elapsed) = quiet (drainedOf elapsed s .state)
@@ -280,7 +297,7 @@ unfolding writeOf fallCallOf nextPairOf escapeDrainOf switchCallOf lcdCallOf ret
 opens-calls = tt
 
 opens-bus : Unit {0}
-unfolding busPairs busState arbitrationCallOf conflictCallOf cycleState
+unfolding busPairs busCauses busState arbitrationCallOf conflictCallOf cycleState
 opens-bus = tt
 
 opens-numbers : Unit {0}
@@ -300,7 +317,7 @@ module _ (s : Cgb) where
   step-is (Calls.fall i) = by-answer fellReads claim.Refused (fallRefusal s i) _ s _ _ refl refl
   step-is Calls.next-pair = by-answer handedReads pair.Refused (stateRefusal s) _ s _ _ (handed (nextByteOf (s .«vram_dma») .answer) _) refl
   step-is Calls.escape-drain = by-answer handedReads pair.Refused (stateRefusal s) _ s _ _ (handed (drainOf (s .«vram_dma») .answer) _) refl
-  step-is (Calls.bus-call i n) = by-pairs (busRefusal s n) (takenIn s i .pairs) s _
+  step-is (Calls.bus-call i n) = by-pairs (busRefusal s n) (takenIn s i .pairs) (takenIn s i .causes) s _
   step-is (Calls.switch-speed i) = by-answer switchedReads switch.Refused (switchRefusal s i) _ s _ _ (switched (switchedOf i s .outcome) _) refl
   step-is Calls.lcd-off = by-answer (λ (x : DoneAnswer) t. plain (doneSays x) t) done.Refused (stateRefusal s) done.Done s _ _ refl refl
   step-is Calls.retired = by-answer (λ (x : DoneAnswer) t. plain (doneSays x) t) done.Refused (stateRefusal s) done.Done s _ _ refl refl
@@ -315,7 +332,8 @@ module _ (s : Cgb) where
   step-is (Calls.arbitrate-inside i) =
       by-answer (λ (x : ArbitrationAnswer) t. plain (arbitrationSays x) t) arbitration.Refused (stateRefusal s) _ s _ _
       (arbitrated-reads (arbitrated s (insideArbitration s i) .answer) _) refl
-  step-is (Calls.bus-call-inside i n) = by-pairs (busRefusal s n) (takenIn s (insideBus s i) .pairs) s _
+  step-is (Calls.bus-call-inside i n) =
+      let t = takenIn s (insideBus s i) in by-pairs (busRefusal s n) (t .pairs) (t .causes) s _
   step-is (Calls.object-dma-cycle a n) = by-state (cycleRefusal s n) s _
   step-is (Calls.query q) = ap (λ (n : ℕ). declined n s) (query-says q) ∙ by-number (stateRefusal s) s
 

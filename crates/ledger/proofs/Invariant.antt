@@ -24,6 +24,7 @@ use Rattle.speed_switch.specs.declared.switch.SwitchInput.{SwitchInput}
 use Rattle.cut.specs.declared.SwitchOutcome.the-variants.{None, Discarded, Cut}
 use Rattle.transfer.specs.Pair.{movingOf, quotaOf, drainOf}
 use Rattle.transfer.specs.declared.pair.BytePair.{BytePair}
+use Rattle.transfer.specs.declared.pair.Cause.{Cause}
 use Rattle.transfer.specs.declared.pair.NextAnswer.the-variants as next
 use Rattle.transfer.specs.declared.pair.NextByte.{NextByte}
 use Rattle.transfer.proofs.PairSteps.{pair-steps}
@@ -32,10 +33,11 @@ use Rattle.ledger.specs.LedgerInput.{Configuration, LedgerInput, a-write
 use Rattle.ledger.specs.Ledger.{Ledger, afterCut, effect, afterPairs, afterCall}
 use Rattle.ledger.specs.Calls
 use Rattle.ledger.specs.Calls.{Call, Outcome, handing, step, ledgerInput}
+use Rattle.ledger.specs.Causes.{CausesFollow, no-cause}
 use Rattle.ledger.specs.Demand3.{NextPairs, no-more, Balanced}
 use Rattle.ledger.proofs.Core.{Core, under, coreOf, quota, fall-core, lcd-core, lcd-quota, blackout-core, blackout-quota, wake-core}
 use Rattle.ledger.proofs.Core.{wake-quota}
-use Rattle.ledger.proofs.AcceptedOrDeclined.{quiet, giving, accepting, declined, pairOf, cuts, reasonsOf, numberOf, givenBy, either-way}
+use Rattle.ledger.proofs.AcceptedOrDeclined.{quiet, giving, handing-on, accepting, declined, cuts, reasonsOf, numberOf, givenBy, either-way}
 use Rattle.ledger.proofs.PairsMatch.{Match, PairsMatch, next-match, drain-match, bus-match}
 use Rattle.ledger.proofs.Writes.{write-match}
 
@@ -51,6 +53,7 @@ pub record Invariant (k : Configuration) (s : Cgb) (l : Ledger) (n : ℕ) : Type
 -- what a call must do
 pub record CallLaws (k : Configuration) (l : Ledger) (n : ℕ) (c : LedgerInput) (o : Outcome) : Type 0 where
   pub next : accepts (o .reply) ≡ true → NextPairs (effect k c (o .reply) l) (o .reply .pairs)
+  pub caused : accepts (o .reply) ≡ true → CausesFollow (effect k c (o .reply) l) (o .reply .pairs) (o .reply .causes)
   pub refill :
       isFall c ≡ true → accepts (o .reply) ≡ true →
       quota (o .state) ≡ quotaOf (movingOf (o .state .«vram_dma»)) (o .state .«double_speed»)
@@ -88,14 +91,15 @@ upward-cursor false d = refl
 
 module _ (k : Configuration) (s : Cgb) (l : Ledger) (n : ℕ) (i : Invariant k s l n) where
   -- a refusal keeps all: "no refused call changes it"
-  refused-ledger : (c : LedgerInput) (number : ℕ) → eqb number 0 ≡ false → afterCall k c (handing number []) l ≡ l
+  refused-ledger : (c : LedgerInput) (number : ℕ) → eqb number 0 ≡ false → afterCall k c (handing number [] []) l ≡ l
   unfolding afterCall
-  refused-ledger c number e = ap (λ (b : Bool). cond b (afterPairs [] (effect k c (handing number []) l)) l) e
+  refused-ledger c number e = ap (λ (b : Bool). cond b (afterPairs [] (effect k c (handing number [] []) l)) l) e
 
   declined-laws : (c : LedgerInput) (number : ℕ) → eqb number 0 ≡ false → CallLaws k l n c (declined number s)
   declined-laws c number e =
       record {
         next = λ t. no-fall (sym e ∙ t);
+        caused = λ t. no-fall (sym e ∙ t);
         refill = λ f t. no-fall (sym e ∙ t);
         holds = record {
           agree = subst (Match k (coreOf s)) (sym (refused-ledger c number e)) (i .agree);
@@ -113,6 +117,7 @@ module _ (k : Configuration) (s : Cgb) (l : Ledger) (n : ℕ) (i : Invariant k s
   quiet-laws t same q =
       record {
         next = λ e. no-more;
+        caused = λ e. no-cause;
         refill = λ f e. no-fall f;
         holds = record {
           agree = subst (λ (c : Core). Match k c l) (sym same) (i .agree);
@@ -122,12 +127,13 @@ module _ (k : Configuration) (s : Cgb) (l : Ledger) (n : ℕ) (i : Invariant k s
 
   -- a call that hands out the ledger's next pairs, each taken from quota
   giving-laws :
-      (ps : List BytePair) (e : VramDma) → PairsMatch k (s .«dmg_compat») l (quota s) ps e →
-      CallLaws k l n another (accepting (giving ps (withVramDma e s)))
+      (ps : List BytePair) (ks : List Cause) (e : VramDma) → PairsMatch k (s .«dmg_compat») l (quota s) ps ks e →
+      CallLaws k l n another (accepting (giving ps ks (withVramDma e s)))
   unfolding afterCall
-  giving-laws ps e p =
+  giving-laws ps ks e p =
       record {
         next = λ t. p .next;
+        caused = λ t. p .caused;
         refill = λ f t. no-fall f;
         holds = record { agree = p .agree; budget = omega (arith, p .quota, i .budget) };
       }
@@ -138,6 +144,7 @@ module _ (k : Configuration) (s : Cgb) (l : Ledger) (n : ℕ) (i : Invariant k s
       let both = write-match k s w byte l (i .agree) a in
       record {
         next = λ e. no-more;
+        caused = λ e. no-cause;
         refill = λ f e. no-fall f;
         holds = record { agree = both .agree; budget = omega (arith, both .quota, i .budget) };
       }
@@ -150,6 +157,7 @@ module _ (k : Configuration) (s : Cgb) (l : Ledger) (n : ℕ) (i : Invariant k s
   fall-laws x accepted =
       record {
         next = λ t. no-more;
+        caused = λ t. no-cause;
         refill = λ f t. fall-steps x (s .«double_speed») (s .«vram_dma») .quota accepted;
         holds = record {
           agree = subst (λ (c : Core). Match k c l) (sym (fall-core s x)) (i .agree);
@@ -173,6 +181,7 @@ module _ (k : Configuration) (s : Cgb) (l : Ledger) (n : ℕ) (i : Invariant k s
       ap (under (s .«dmg_compat»)) (upward-cursor up d) ∙ switch-core (s .«dmg_compat») up latched (readyBlock d) d in
       record {
         next = λ e. no-more;
+        caused = λ e. no-cause;
         refill = λ f e. no-fall f;
         holds = record {
           agree = subst (λ (c : Core). Match k c (afterCut (cuts (switchedOf x s .outcome)) l)) (sym core)
@@ -197,7 +206,7 @@ module _ (k : Configuration) (s : Cgb) (l : Ledger) (n : ℕ) (i : Invariant k s
 
   -- the escape drain: its pair is not counted, and it leaves quota 0
   abbrev DrainLaws : NextByte → Type 0
-  DrainLaws x = CallLaws k l n a-drain (accepting (giving (pairOf (x .answer)) (withVramDma (x .dma) s)))
+  DrainLaws x = CallLaws k l n a-drain (accepting (handing-on s x))
 
   drained-laws : s .«vram_dma» .cursor .«escape_byte» ≡ true → movingOf (s .«vram_dma») ≡ true → DrainLaws (drainOf (s .«vram_dma»))
   unfolding afterCall
@@ -205,6 +214,7 @@ module _ (k : Configuration) (s : Cgb) (l : Ledger) (n : ℕ) (i : Invariant k s
       let p = drain-match k (s .«dmg_compat») (s .«vram_dma») l (i .agree) owed moving in
       record {
         next = λ t. p .next;
+        caused = λ t. p .caused;
         refill = λ f t. no-fall f;
         holds = record { agree = p .agree; budget = omega (arith, pair-steps .drains (s .«vram_dma») owed moving .1, i .budget) };
       }
@@ -215,6 +225,7 @@ module _ (k : Configuration) (s : Cgb) (l : Ledger) (n : ℕ) (i : Invariant k s
       subst DrainLaws (sym e)
       (record {
         next = λ t. no-more;
+        caused = λ t. no-cause;
         refill = λ f t. no-fall f;
         holds = record { agree = i .agree; budget = omega (arith, i .budget) };
       })
@@ -234,9 +245,9 @@ module _ (k : Configuration) (s : Cgb) (l : Ledger) (n : ℕ) (i : Invariant k s
   accepted-laws (Calls.write a w x byte) none = write-laws a w (lit< byte)
   accepted-laws (Calls.read a x) none = quiet-laws s refl refl
   accepted-laws (Calls.fall x) none = fall-laws x (none .1 .1 .0)
-  accepted-laws Calls.next-pair none = giving-laws _ _ (next-match k (s .«dmg_compat») (s .«vram_dma») l (i .agree))
+  accepted-laws Calls.next-pair none = giving-laws _ _ _ (next-match k (s .«dmg_compat») (s .«vram_dma») l (i .agree))
   accepted-laws Calls.escape-drain none = drain-laws
-  accepted-laws (Calls.bus-call x y) none = giving-laws _ _ (bus-match k (s .«dmg_compat») x (s .«vram_dma») l (i .agree))
+  accepted-laws (Calls.bus-call x y) none = giving-laws _ _ _ (bus-match k (s .«dmg_compat») x (s .«vram_dma») l (i .agree))
   accepted-laws (Calls.switch-speed x) none = switch-laws x
   accepted-laws Calls.lcd-off none = quiet-laws _ (lcd-core s) (lcd-quota s)
   accepted-laws Calls.retired none = quiet-laws (givenBy s Calls.retired .state) refl refl
@@ -247,7 +258,7 @@ module _ (k : Configuration) (s : Cgb) (l : Ledger) (n : ℕ) (i : Invariant k s
   accepted-laws (Calls.query q) none = quiet-laws s refl refl
   accepted-laws (Calls.arbitrate-inside x) none = quiet-laws (givenBy s (Calls.arbitrate-inside x) .state) refl refl
   accepted-laws (Calls.bus-call-inside x y) none =
-      giving-laws _ _ (bus-match k (s .«dmg_compat») (insideBus s x) (s .«vram_dma») l (i .agree))
+      giving-laws _ _ _ (bus-match k (s .«dmg_compat») (insideBus s x) (s .«vram_dma») l (i .agree))
   accepted-laws (Calls.object-dma-cycle a y) none = quiet-laws (givenBy s (Calls.object-dma-cycle a y) .state) refl refl
 
   -- and declined

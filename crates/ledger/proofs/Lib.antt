@@ -10,4 +10,5 @@ pub mod Tied
 pub mod General
 pub mod OneRun
 pub mod Theorem
+pub mod Causes
 pub mod Answered

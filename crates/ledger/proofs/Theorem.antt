@@ -92,7 +92,7 @@ invariant (called {h = h} {s = s} c o r returned) =
     (sym (returned-step returned)) (after-call s (ledgerOf h) (pairsSinceFall h) (invariant r) c)
 
 -- the same of a ledger that is written out
-speaks : {h : History} {s : Cgb} → RunsTo h s → (k : Configuration) (l : Ledger) → ledgerOf h ≡ running k l → Match k (coreOf s) l
+pub speaks : {h : History} {s : Cgb} → RunsTo h s → (k : Configuration) (l : Ledger) → ledgerOf h ≡ running k l → Match k (coreOf s) l
 speaks {s = s} r k l p = subst (Speaks s) p (invariant r .speaks)
 
 next :

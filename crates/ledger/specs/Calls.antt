@@ -15,7 +15,9 @@ use Rattle.fall_stages.specs.declared.FallInput.{FallInput}
 use Rattle.map_write.specs.declared.WriteInput.{WriteInput}
 use Rattle.speed_switch.specs.declared.switch.SwitchInput.{SwitchInput}
 use Rattle.transfer.specs.declared.pair.BytePair.{BytePair}
-use Rattle.engine.specs.Calls.{readRefusal, writeOf, fallCallOf, nextPairOf, Lengths, busRefusal, busPairs, busState, arbitrationCallOf}
+use Rattle.transfer.specs.declared.pair.Cause.{Cause}
+use Rattle.transfer.specs.declared.pair.Causes.{Causes}
+use Rattle.engine.specs.Calls.{readRefusal, writeOf, fallCallOf, nextPairOf, Lengths, busRefusal, busPairs, busCauses, busState, arbitrationCallOf}
 use Rattle.engine.specs.Calls.{switchCallOf, blackoutCallOf, wakeCallOf, escapeDrainOf, lcdCallOf, retiredCallOf, conflictCallOf}
 use Rattle.engine.specs.Calls.{insideArbitration, insideBus, cycleRefusal, cycleState}
 use Rattle.answers.specs.Answers.{Said, doneStateSays, flaggedSays, handedSays, fellSays, switchedSays, arbitratedSays, busOutcomeSays}
@@ -61,13 +63,13 @@ pub record Outcome : Type 0 where
   pub reply : Reply
   pub state : Cgb
 
--- a number, and pairs where it is 0
-abbrev pub handing : ℕ → List BytePair → Reply
-handing number pairs = record { number = number; pairs = pairs; cut = false; committed = false }
+-- a number, and where it is 0 pairs with the cause of each
+abbrev pub handing : ℕ → List BytePair → List Cause → Reply
+handing number pairs causes = record { number = number; pairs = pairs; cut = false; committed = false; causes = causes }
 
 -- how each function's result reads as an outcome: its number, no pairs
 abbrev pub plain : Said → Cgb → Outcome
-plain said s = record { reply = handing (said .number) []; state = s }
+plain said s = record { reply = handing (said .number) [] []; state = s }
 
 abbrev pub ofDone : Done → Outcome
 ofDone r = plain (doneStateSays r) (r .state)
@@ -80,16 +82,25 @@ ofArbitrated r = plain (arbitratedSays r) (r .state)
 
 -- or whether it committed
 abbrev pub ofFell : Fell → Outcome
-ofFell r = record { reply = record { number = fellSays r .number; pairs = []; cut = false; committed = tellsCommit (r .answer) }; state = r .state }
+ofFell r =
+    record {
+      reply = record { number = fellSays r .number; pairs = []; cut = false; committed = tellsCommit (r .answer); causes = [] };
+      state = r .state;
+    }
 
--- or its pair
+-- or its pair and the pair's cause
 abbrev pub pairsIn : PairAnswer → List BytePair
-pairsIn (pair.Pair p) = p ∷ []
+pairsIn (pair.Pair p k) = p ∷ []
 pairsIn pair.None = []
 pairsIn (pair.Refused n) = []
 
+abbrev pub causesIn : PairAnswer → List Cause
+causesIn (pair.Pair p k) = k ∷ []
+causesIn pair.None = []
+causesIn (pair.Refused n) = []
+
 abbrev pub ofHanded : Handed → Outcome
-ofHanded r = record { reply = handing (handedSays r .number) (pairsIn (r .answer)); state = r .state }
+ofHanded r = record { reply = handing (handedSays r .number) (pairsIn (r .answer)) (causesIn (r .answer)); state = r .state }
 
 -- or whether it cut
 abbrev pub isCut : SwitchAnswer → Bool
@@ -99,24 +110,36 @@ isCut switch.Cut = true
 isCut (switch.Refused n) = false
 
 abbrev pub ofSwitched : Switched → Outcome
-ofSwitched r = record { reply = record { number = switchedSays r .number; pairs = []; cut = isCut (r .answer); committed = false }; state = r .state }
+ofSwitched r =
+    record {
+      reply = record { number = switchedSays r .number; pairs = []; cut = isCut (r .answer); committed = false; causes = [] };
+      state = r .state;
+    }
 
--- or the pairs of a bus call: the first of its array, as many as it counts
+-- or the pairs of a bus call and their causes: the first of its two places, as many as it counts
 abbrev pub movedIn : BusAnswer → List BytePair → List BytePair
 movedIn (bus.Moved count setup) ps = take count ps
 movedIn (bus.Refused n) ps = []
 
+abbrev pub movedCauses : BusAnswer → Causes → List Cause
+movedCauses (bus.Moved count setup) c = take count (c .first ∷ c .second ∷ [])
+movedCauses (bus.Refused n) c = []
+
 abbrev pub ofBussed : BusOutcome → Outcome
-ofBussed r = record { reply = handing (busOutcomeSays r .number) (movedIn (r .answer) (r .pairs)); state = r .state }
+ofBussed r =
+    record {
+      reply = handing (busOutcomeSays r .number) (movedIn (r .answer) (r .pairs)) (movedCauses (r .answer) (r .causes));
+      state = r .state;
+    }
 
 -- one call, at the state s
 unfoldable pub step : Cgb → Call → Outcome
 step s (write a w n byte) = ofDone (writeOf s w a n)
-step s (read a n) = record { reply = handing (readRefusal s n a) []; state = s }
+step s (read a n) = record { reply = handing (readRefusal s n a) [] []; state = s }
 step s (fall i) = ofFell (fallCallOf s i)
 step s next-pair = ofHanded (nextPairOf s)
 step s escape-drain = ofHanded (escapeDrainOf s)
-step s (bus-call i n) = record { reply = handing (busRefusal s n) (busPairs s i n); state = busState s i n }
+step s (bus-call i n) = record { reply = handing (busRefusal s n) (busPairs s i n) (busCauses s i n); state = busState s i n }
 step s (switch-speed i) = ofSwitched (switchCallOf s i)
 step s lcd-off = ofDone (lcdCallOf s)
 step s retired = ofDone (retiredCallOf s)
@@ -127,8 +150,9 @@ step s (conflict a) = plain (conflictSays (conflictCallOf s a)) s
 step s (query q) = plain (askedOf s q) s
 step s (arbitrate-inside i) = ofArbitrated (arbitrationCallOf s (insideArbitration s i))
 step s (bus-call-inside i n) =
-    record { reply = handing (busRefusal s n) (busPairs s (insideBus s i) n); state = busState s (insideBus s i) n }
-step s (object-dma-cycle a n) = record { reply = handing (cycleRefusal s n) []; state = cycleState s a n }
+    let given = insideBus s i in
+    record { reply = handing (busRefusal s n) (busPairs s given n) (busCauses s given n); state = busState s given n }
+step s (object-dma-cycle a n) = record { reply = handing (cycleRefusal s n) [] []; state = cycleState s a n }
 
 -- a bus call of either form, at the state s, and what it is given
 pub data BusCall (s : Cgb) : Call → BusInput → Type 0 where

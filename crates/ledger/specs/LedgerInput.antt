@@ -5,6 +5,7 @@ use mathlib.Core.Bool.{Bool, true, false}
 use mathlib.Core.List.{List}
 use lib.Dec.{eqb}
 use Rattle.transfer.specs.declared.pair.BytePair.{BytePair}
+use Rattle.transfer.specs.declared.pair.Cause.{Cause}
 
 -- of power-on: what it fixes until the next one
 pub record Configuration : Type 0 where
@@ -15,13 +16,14 @@ pub data LedgerInput : Type 0 where
   a-write : (address value : ℕ) → LedgerInput
   a-fall a-switch a-drain another : LedgerInput
 
--- of an answer: the number of a declined call or 0, the pairs handed out in order, whether a switch said cut, and whether a fall
--- said that it committed (which the ledger has no use for)
+-- of an answer: the number of a declined call or 0, the pairs handed out in order, whether a switch said cut; and, for which the
+-- ledger has no use, whether a fall said that it committed, and the cause of each pair (document 02, A3)
 pub record Reply : Type 0 where
   pub number : ℕ
   pub pairs : List BytePair
   pub cut : Bool
   pub committed : Bool
+  pub causes : List Cause
 
 -- "An accepted call gets no number"
 abbrev pub accepts : Reply → Bool

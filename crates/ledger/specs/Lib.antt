@@ -3,6 +3,7 @@ pub mod Ledger
 pub mod Calls
 pub mod Code
 pub mod Demand3
+pub mod Causes
 pub mod OneRun
 pub mod Function
 pub mod Functions

@@ -308,7 +308,7 @@ taken (suc n) d f = by (nextByteOf d .answer) (taken n (nextByteOf d .dma) (next
     by :
         (a : NextAnswer) → EngineFits (takenOf n (nextByteOf d .dma) .dma) →
         EngineFits (afterAnswer d a (takenOf n (nextByteOf d .dma)) .dma)
-    by (next.Pair p) more = more
+    by (next.Pair p k) more = more
     by next.None more = f
 
 pub bus-fits : (i : BusInput) (d : VramDma) → EngineFits d → EngineFits (busTaken i d .dma)
