@@ -8,7 +8,7 @@ use Rattle.bus.specs.Commit.{bytesOf}
 use Rattle.bus.specs.declared.arbitration.Arbitration.{Arbitration}
 use Rattle.bus.specs.declared.commit.BusInput.{BusInput}
 use Rattle.map_write.specs.declared.WriteInput.{WriteInput}
-use Rattle.engine.specs.Calls.{readRefusal, writeRefusal, readSaid, writeOf, writeWram, writeSaid, lengthsOf, busRefusal, busPairs, busState}
+use Rattle.engine.specs.Calls.{readRefusal, writeRefusal, readSaid, writeOf, writeWram, writeSaid, lengthsOf, busRefusal, busPairs, busCauses, busState}
 use Rattle.engine.specs.Calls.{busSaid, busBytes, busVram, busOam, busOf, insideBus, cycleRefusal, cycleState, cycleSaid, cycleByte, cycleOam, cycleOf}
 use Rattle.call.specs.declared.Call.{Call}
 use Rattle.call.specs.declared.Call.the-variants.{Write, Read, Bus, BusInside, ObjectDmaCycle, Plain}
@@ -31,6 +31,7 @@ module _ (s : Cgb) (wram vram oam : List ℕ) where
       (λ e. record {
         number-alone = rw e;
         no-pair = refl;
+        no-cause = refl;
         no-byte = refl;
         same-state = rw e;
         same-wram = rw e;
@@ -43,7 +44,7 @@ module _ (s : Cgb) (wram vram oam : List ℕ) where
       (let n = lengthsOf cartridge wram vram oam in
       (busPerformed s i cartridge wram vram oam .told .refusal ≡ 0 → ⊥) →
       Declined s wram vram oam (busPerformed s i cartridge wram vram oam) wram (busVram s i n cartridge wram vram) (busOam s i n cartridge wram oam))
-  unfolding busPerformed busOf busSaid busPairs busBytes busState busVram busOam bytesOf
+  unfolding busPerformed busOf busSaid busPairs busCauses busBytes busState busVram busOam bytesOf
   bus-declined i cartridge =
       let n = lengthsOf cartridge wram vram oam in
       told.law s wram vram oam (busRefusal s n) _ (busPerformed s i cartridge wram vram oam) wram
@@ -51,6 +52,7 @@ module _ (s : Cgb) (wram vram oam : List ℕ) where
       (λ e. record {
         number-alone = rw e;
         no-pair = rw e;
+        no-cause = rw e;
         no-byte = rw e;
         same-state = rw e;
         same-wram = refl;
@@ -71,6 +73,7 @@ module _ (s : Cgb) (wram vram oam : List ℕ) where
       (λ e. record {
         number-alone = rw e;
         no-pair = refl;
+        no-cause = refl;
         no-byte = rw e;
         same-state = rw e;
         same-wram = refl;

@@ -34,6 +34,7 @@ module _ (s : Cgb) (coded : Coded) (cartridge wram vram oam : List ℕ) where
             λ _. record {
               number-alone = rw whole;
               no-pair = ap (λ (p : Performed). p .pairs) whole;
+              no-cause = ap (λ (p : Performed). p .causes) whole;
               no-byte = ap (λ (p : Performed). p .bytes) whole;
               same-state = ap (λ (p : Performed). p .state) whole;
               same-wram = refl;

@@ -1,5 +1,5 @@
--- Every call of the engine through one function: what it says, the pairs and bytes of a bus call, an M-cycle call's byte, the state after and memory at
--- exit, each by the definition that the call's own contract cites.
+-- Every call of the engine through one function: what it says, a bus call's pairs with their causes and bytes, an M-cycle call's byte,
+-- the state after and memory at exit, each by the definition that the call's own contract cites.
 use Prim.Native.Nat.{ℕ}
 use mathlib.Core.Path.{_≡_}
 use mathlib.Core.List.{List, [], _∷_}
@@ -15,7 +15,7 @@ use Rattle.call.specs.declared.Call.{Call}
 use Rattle.call.specs.declared.Call.the-variants.{Write, Read, Bus, BusInside, ObjectDmaCycle, Plain}
 use Rattle.plain.specs.Plain.{plainPerformed}
 use Rattle.told.specs.Declined.{Declined}
-use Rattle.told.specs.Told.{toldOf, telling}
+use Rattle.told.specs.Told.{toldOf, toldCauses, telling}
 use Rattle.told.specs.declared.Performed.{Performed}
 
 unfoldable pub readPerformed : Cgb → List ℕ → ℕ → Performed
@@ -27,7 +27,13 @@ writePerformed s w a n = telling (writeSaid s (w .value) a n) (writeOf s w a n .
 unfoldable pub busPerformed : Cgb → BusInput → List ℕ → List ℕ → List ℕ → List ℕ → Performed
 busPerformed s i cartridge wram vram oam =
     let b = busOf s i cartridge wram vram oam in
-    record { told = toldOf (busSaid s i (lengthsOf cartridge wram vram oam)); pairs = b .pairs; bytes = b .bytes; state = b .state }
+    record {
+      told = toldOf (busSaid s i (lengthsOf cartridge wram vram oam));
+      pairs = b .pairs;
+      causes = toldCauses (b .causes);
+      bytes = b .bytes;
+      state = b .state;
+    }
 
 unfoldable pub cyclePerformed : Cgb → Arbitration → List ℕ → List ℕ → List ℕ → List ℕ → Performed
 cyclePerformed s a cartridge wram vram oam =
@@ -35,6 +41,7 @@ cyclePerformed s a cartridge wram vram oam =
     record {
       told = toldOf (cycleSaid s a (lengthsOf cartridge wram vram oam));
       pairs = noPair ∷ noPair ∷ [];
+      causes = 0 ∷ 0 ∷ [];
       bytes = c .byte ∷ 0 ∷ [];
       state = c .state;
     }

@@ -1,4 +1,4 @@
-// The calls that are lent memory: what each said, the pairs and bytes of a bus call, the byte of an M-cycle call, and the state after.
+// The calls that are lent memory: what each said, a bus call's pairs with their causes and bytes, the byte of an M-cycle call, and the state after.
 ghost use mathlib.Core.Path.{_≡_};
 ghost use Rattle.perform.specs.Perform.{WritePerformed, BusPerformed, CyclePerformed, readPerformed};
 ghost use Rattle.engine.specs.Calls.{insideBus};
@@ -40,11 +40,13 @@ pub fn bus(
     let bussed = engine::vram_dma_commit_bytes(state, input, cartridge, wram, vram, oam);
     let answer = bussed.answer;
     let pairs = bussed.pairs;
+    let causes = bussed.causes;
     let bytes = bussed.bytes;
     let after = bussed.state;
     Performed {
         told: told::of_bus(answer),
         pairs: pairs,
+        causes: told::of_causes(causes),
         bytes: bytes,
         state: after,
     }
@@ -64,11 +66,13 @@ pub fn bus_inside(
     let bussed = engine::vram_dma_commit_bytes_inside(state, input, cartridge, wram, vram, oam);
     let answer = bussed.answer;
     let pairs = bussed.pairs;
+    let causes = bussed.causes;
     let bytes = bussed.bytes;
     let after = bussed.state;
     Performed {
         told: told::of_bus(answer),
         pairs: pairs,
+        causes: told::of_causes(causes),
         bytes: bytes,
         state: after,
     }
@@ -91,6 +95,7 @@ pub fn cycle(
     Performed {
         told: told::of_cycle(answer),
         pairs: [BytePair { source: 0, dest: 0 }; 2],
+        causes: [0u8; 2],
         bytes: [cycled.byte, 0],
         state: after,
     }

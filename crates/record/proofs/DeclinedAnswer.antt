@@ -7,8 +7,8 @@ use Rattle.told.specs.Declined.{Declined}
 use Rattle.told.specs.declared.Performed.{Performed}
 use Rattle.record.specs.Answer.{answerBytes, refusedBytes}
 
--- a number alone, no pair and no byte are written as the number and zeros
+-- a number alone, no pair, no cause and no byte are written as the number and zeros
 pub answer-alone :
     {s : Cgb} {wram vram oam w v o : List ℕ} (p : Performed) → Declined s wram vram oam p w v o →
     answerBytes p ≡ refusedBytes (p .told .refusal)
-answer-alone p d = rw (d .no-pair, d .no-byte, d .number-alone)
+answer-alone p d = rw (d .no-pair, d .no-cause, d .no-byte, d .number-alone)

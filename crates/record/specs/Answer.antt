@@ -1,5 +1,5 @@
 -- An answer's record of 24 bytes, numbers lowest byte first: 0 refusal, 1 zero, 2–9 the four values, 10–13 the first pair's source
--- and destination, 14–17 the second's, 18 and 19 their bytes, 20–23 zero; an M-cycle call's
+-- and destination, 14–17 the second's, 18 and 19 their bytes, 20 and 21 their causes, 22 and 23 zero; an M-cycle call's
 -- byte is byte 18.
 use Prim.Native.Nat.{ℕ, _/_, _%_}
 use mathlib.Core.List.{List, [], _∷_, _++_}
@@ -21,7 +21,7 @@ answerBytes p =
     ++ digits 2 (p .told .v3)
     ++ pairBytes (getD (p .pairs) 0 noPair)
     ++ pairBytes (getD (p .pairs) 1 noPair)
-    ++ (getD (p .bytes) 0 0 ∷ getD (p .bytes) 1 0 ∷ 0 ∷ 0 ∷ 0 ∷ 0 ∷ [])
+    ++ (getD (p .bytes) 0 0 ∷ getD (p .bytes) 1 0 ∷ getD (p .causes) 0 0 ∷ getD (p .causes) 1 0 ∷ 0 ∷ 0 ∷ [])
 
 -- a refused call's: the number and zeros
 abbrev pub refusedBytes : ℕ → List ℕ

@@ -1,4 +1,4 @@
-// An answer's record: the refusal, the values, the pairs and the bytes of a bus call or the byte of an M-cycle call, lowest byte first.
+// An answer's record: the refusal, the values, a bus call's pairs, their bytes and causes or an M-cycle call's byte, lowest byte first.
 ghost use mathlib.Core.Path.{_≡_};
 ghost use Prim.Native.Nat.{_/_, _%_};
 ghost use Rattle.record.specs.Answer.{answerBytes, refusedBytes};
@@ -29,6 +29,7 @@ pub fn encode(p: Performed) -> [u8; 24]
     ensures { λ r. ⌜ r ≡ answerBytes p ⌝ }
 {
     let pairs = p.pairs;
+    let causes = p.causes;
     let bytes = p.bytes;
     let first = pairs[0];
     let second = pairs[1];
@@ -53,8 +54,8 @@ pub fn encode(p: Performed) -> [u8; 24]
         high(second.dest),
         bytes[0],
         bytes[1],
-        0,
-        0,
+        causes[0],
+        causes[1],
         0,
         0,
     ]

@@ -29,6 +29,7 @@ module _ (s : Cgb) (wram vram oam : List ℕ) where
       (λ e. record {
         number-alone = rw (is, e);
         no-pair = refl;
+        no-cause = refl;
         no-byte = refl;
         same-state = stays e;
         same-wram = refl;

@@ -13,6 +13,7 @@ pub record Declined (s : Cgb) (wram vram oam : List ℕ) (r : Performed) (lastWr
   -- its number and no value
   pub number-alone : r .told ≡ toldRefused (r .told .refusal)
   pub no-pair : r .pairs ≡ noPair ∷ noPair ∷ []
+  pub no-cause : r .causes ≡ 0 ∷ 0 ∷ []
   pub no-byte : r .bytes ≡ 0 ∷ 0 ∷ []
   pub same-state : r .state ≡ s
   pub same-wram : lastWram ≡ wram

@@ -1,8 +1,8 @@
 // What a call gives, as numbers: the refusal or 0, then up to four values in the order of the definitions
-// (answers/specs/Answers); with the pairs and bytes of a bus call, the byte of an M-cycle call, and the state.
+// (answers/specs/Answers); with a bus call's pairs, causes and bytes, the byte of an M-cycle call, and the state.
 ghost use mathlib.Core.Path.{_≡_};
-ghost use Rattle.answers.specs.Answers.{bitOf, doneSays, byteSays, flagSays, claimSays, tallySays, pairSays, switchSays, arbitrationSays, conflictSays, busSays, cycleSays, objectDmaSays, statusSays, modeSays, accepted};
-ghost use Rattle.told.specs.Told.{toldOf, toldRefused, toldValues, quietly};
+ghost use Rattle.answers.specs.Answers.{bitOf, doneSays, byteSays, flagSays, claimSays, tallySays, pairSays, causeNumber, switchSays, arbitrationSays, conflictSays, busSays, cycleSays, objectDmaSays, statusSays, modeSays, accepted};
+ghost use Rattle.told.specs.Told.{toldOf, toldRefused, toldValues, toldCauses, quietly};
 use answers::ArbitrationAnswer;
 use answers::BusAnswer;
 use answers::ByteAnswer;
@@ -19,6 +19,8 @@ use answers::TallyAnswer;
 use console::Cgb;
 use transfer::VramDmaStatus;
 use transfer::pair::BytePair;
+use transfer::pair::Cause;
+use transfer::pair::Causes;
 
 pub struct Told {
     pub refusal: u8,
@@ -28,10 +30,12 @@ pub struct Told {
     pub v3: u16,
 }
 
-// What a call said and left. The arrays are a bus call's, and an M-cycle call's byte is the first: of another call they are 0.
+// What a call said and left. The arrays are a bus call's, its pairs' causes as numbers, and an M-cycle call's byte is the first: of
+// another call they are 0.
 pub struct Performed {
     pub told: Told,
     pub pairs: [BytePair; 2],
+    pub causes: [u8; 2],
     pub bytes: [u8; 2],
     pub state: Cgb,
 }
@@ -44,6 +48,7 @@ pub fn quiet(told: Told, state: Cgb) -> Performed
     Performed {
         told: told,
         pairs: [BytePair { source: 0, dest: 0 }; 2],
+        causes: [0u8; 2],
         bytes: [0u8; 2],
         state: same,
     }
@@ -139,11 +144,21 @@ pub fn of_tally(a: TallyAnswer) -> Told
     }
 }
 
+fn cause_number(k: Cause) -> u8
+    ensures { λ r. ⌜ r ≡ causeNumber k ⌝ }
+{
+    match k {
+        Cause::GoingOn => 0,
+        Cause::CountedOut => 1,
+        Cause::Carried => 2,
+    }
+}
+
 pub fn of_pair(a: PairAnswer) -> Told
     ensures { λ r. ⌜ r ≡ toldOf (pairSays a) ⌝ }
 {
     match a {
-        PairAnswer::Pair(p) => values(1, p.source, p.dest, 0),
+        PairAnswer::Pair(p, k) => values(1, p.source, p.dest, widened(cause_number(k))),
         PairAnswer::None => values(0, 0, 0, 0),
         PairAnswer::Refused(n) => refused(n),
     }
@@ -188,6 +203,15 @@ pub fn of_bus(a: BusAnswer) -> Told
         BusAnswer::Moved { count, setup_cell } => values(widened(count), bit(setup_cell), 0, 0),
         BusAnswer::Refused(n) => refused(n),
     }
+}
+
+// The causes of a bus call's pairs.
+pub fn of_causes(c: Causes) -> [u8; 2]
+    ensures { λ r. ⌜ r ≡ toldCauses c ⌝ }
+{
+    let first = c.first;
+    let second = c.second;
+    [cause_number(first), cause_number(second)]
 }
 
 pub fn of_cycle(a: CycleAnswer) -> Told

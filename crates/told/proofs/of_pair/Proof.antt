@@ -4,7 +4,9 @@ use Rattle.told.proofs.of_pair.Statement.{statement}
 use Rattle.told.proofs.of_pair.Tie as tie
 
 returns : tie.Need-returns
-returns c = simp (c .values .ensures, c .before .before .a .given .1)
+returns c =
+    let numbered = c .before .before in
+    simp (c .values .ensures, c .before .widened .ensures, numbered .cause-number .ensures, numbered .before .before .a .given .1)
 
 returns-2 : tie.Need-returns-2
 returns-2 c = simp (c .values2 .ensures, c .before .enum-told .given .1)
@@ -17,6 +19,8 @@ of-pair-spec =
     tie.close
     (tie.spec
     (λ c. search needs)
+    (λ _ _. tt)
+    (λ _ _. tt)
     (λ _ _. tt)
     (λ c. search needs)
     (λ _ _. tt)

@@ -7,10 +7,10 @@ use Rattle.perform.proofs.lent.bus.Tie as tie
 returns : tie.Need-returns
 unfolding busPerformed
 returns c =
-    let b = c .before .before .before .before .before .before .before .before .vram-dma-commit-bytes .ensures in
-    record { result = rw (c .of-bus .ensures, b .says, b .result); stored = b .stored; deposit = b .deposit }
+    let b = c .before .before .before .before .before .before .before .before .before .before .vram-dma-commit-bytes .ensures in
+    record { result = rw (c .of-causes .ensures, c .before .of-bus .ensures, b .says, b .result); stored = b .stored; deposit = b .deposit }
 
 pub bus-spec : {M : Type 1} → statement M
 bus-spec =
     tie.close
-    (tie.spec (λ _ _. tt) (λ _ _. tt) (λ c. search needs) (λ c. search needs) returns)
+    (tie.spec (λ _ _. tt) (λ _ _. tt) (λ _ _. tt) (λ c. search needs) (λ c. search needs) returns)

@@ -51,4 +51,6 @@ encode-spec =
     (λ _ _. tt)
     (λ c. search needs)
     (λ c. search needs)
+    (λ c. search needs)
+    (λ c. search needs)
     returns)
