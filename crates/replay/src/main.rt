@@ -1,5 +1,5 @@
 // Replays records of 16 bytes from standard input, from power-on without compat, and writes a line for each
-// (document 01, section 6): record from 0, refusal or 0, pairs, left, FF55 in two capitals. It streams:
+// (document 01, section 6): record from 0, refusal or 0, pairs, left, FF55 in two capitals; the pair's cause (document 02, A3). It streams:
 // input and output pass through buffers of fixed size, and each read's lines are written before the next read.
 ghost use Prim.Native.Nat.{_-_, _<_, _≤_, _*_, _/_};
 ghost use mathlib.Core.Bool.{cond};

@@ -1,3 +1,4 @@
 pub mod Record
 pub mod Step
 pub mod Line
+pub mod LineCause

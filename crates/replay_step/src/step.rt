@@ -5,9 +5,9 @@ use crate::read::Record;
 use console::Cgb;
 use told::Told;
 use transfer::pair::BytePair;
-use transfer::pair::NextAnswer;
 
-// A line without its number: the refusal or 0, how many pairs came, what is left and FF55 after the record, and the pair.
+// A line without its number: the refusal or 0, how many pairs came, what is left and FF55 after the record, and the pair with the
+// number of its cause (document 02, A3). The line shows the cause and not the pair, the board's log the pair and not the cause.
 pub struct Line {
     pub refusal: u8,
     pub pairs: u8,
@@ -15,6 +15,13 @@ pub struct Line {
     pub ff55: u8,
     pub source: u16,
     pub dest: u16,
+    pub cause: u16,
+}
+
+// The pair that a call told, with the number of its cause.
+pub enum ToldPair {
+    Pair(BytePair, u16),
+    None,
 }
 
 pub struct Stepped {
@@ -36,15 +43,16 @@ fn quiet(refusal: u8, state: Cgb) -> Stepped
             ff55: ff55,
             source: 0,
             dest: 0,
+            cause: 0,
         },
         state: same,
     }
 }
 
-fn lined(refusal: u8, answer: NextAnswer, state: Cgb) -> Stepped
+fn lined(refusal: u8, answer: ToldPair, state: Cgb) -> Stepped
     ensures { λ r. ⌜ r ≡ pairLineOf refusal answer state ⌝ }
 {
-    let NextAnswer::Pair(pair) = answer else {
+    let ToldPair::Pair(pair, cause) = answer else {
         return quiet(refusal, state);
     };
     let ff55 = hdma::hdma5::status_byte(state.vram_dma);
@@ -57,23 +65,27 @@ fn lined(refusal: u8, answer: NextAnswer, state: Cgb) -> Stepped
             ff55: ff55,
             source: pair.source,
             dest: pair.dest,
+            cause: cause,
         },
         state: same,
     }
 }
 
 // The pair that a call told, if it is one that hands out a pair.
-fn handed(hands: bool, told: Told) -> NextAnswer
+fn handed(hands: bool, told: Told) -> ToldPair
     ensures { λ r. ⌜ r ≡ toldPair hands told ⌝ }
 {
     let came = hands & (told.v0 != 0);
     if came {
-        return NextAnswer::Pair(BytePair {
-            source: told.v1,
-            dest: told.v2,
-        });
+        return ToldPair::Pair(
+            BytePair {
+                source: told.v1,
+                dest: told.v2,
+            },
+            told.v3,
+        );
     }
-    NextAnswer::None
+    ToldPair::None
 }
 
 // A record at a state. A record of another kind, or a short one, gets 6.

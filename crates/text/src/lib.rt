@@ -100,15 +100,22 @@ pub fn put_field(out: &mut [u8], at: usize, n: u64) -> usize
     put(out, to, b' ')
 }
 
-// The same, for numbers that mostly have one digit: so short that the compiler lays it into its callers.
+// A number that mostly has one digit: so short that the compiler lays it into its callers.
+pub fn put_small(out: &mut [u8], at: usize, n: u64) -> usize
+    ensures { λ r. ⌜ Put (now (out .entry)) at (decimal n) r (now (out .exit)) ⌝ }
+{
+    if n < 10 {
+        return put_digit(out, at, n as u16);
+    }
+    put_decimal(out, at, n)
+}
+
+// Such a number and a space.
 pub fn put_small_field(out: &mut [u8], at: usize, n: u64) -> usize
     ensures { λ r. ⌜ Put (now (out .entry)) at (field n) r (now (out .exit)) ⌝ }
 {
-    if n < 10 {
-        let to = put_digit(out, at, n as u16);
-        return put(out, to, b' ');
-    }
-    put_field(out, at, n)
+    let to = put_small(out, at, n);
+    put(out, to, b' ')
 }
 
 // The last hexadecimal digit, a capital from 10 on.

@@ -9,26 +9,21 @@ returns : tie.Need-returns
 unfolding lineText
 returns c =
     let end = c .before .before in
-    let ff55 = end .before .before .before .before in
-    let left = ff55 .before .before .before .before in
-    let pairs = left .before .before .before .before .before in
-    let refusal = pairs .before .before .before .before .before in
-    let number = refusal .before .before .before .before .before in
-    let two = then (number .put-field .ensures) (refusal .put-small-field .ensures) in
-    let four = then (then two (pairs .put-small-field2 .ensures)) (left .put-field2 .ensures) in
-    then (then four (ff55 .put-hex .ensures)) (end .put .ensures)
+    let cause = end .before .before .before .before in
+    let blank = cause .before .before .before .before .before in
+    let ff55 = blank .before .before .before .before in
+    let numbers = ff55 .before .before .before .before in
+    let six = then (then (numbers .put-numbers .ensures) (ff55 .put-hex .ensures)) (blank .put .ensures) in
+    then (then six (cause .put-small .ensures)) (end .put2 .ensures)
 
 pub put-line-spec : {M : Type 1} → statement M
 put-line-spec =
     tie.close
     (tie.spec
     (λ _ _. tt)
-    (λ c. search needs)
+    (λ _ _. tt)
     (λ _ _. tt)
     (λ c. search needs)
-    (λ _ _. tt)
-    (λ c. search needs)
-    (λ _ _. tt)
     (λ _ _. tt)
     (λ _ _. tt)
     (λ c. search needs)
