@@ -7,6 +7,7 @@ use bus::commit::BusInput;
 use bus::hold::HoldInput;
 use console::Cgb;
 use transfer::pair::BytePair;
+use transfer::pair::Cause;
 
 fn count(answer: BusAnswer) -> u8 {
     match answer {
@@ -15,9 +16,9 @@ fn count(answer: BusAnswer) -> u8 {
     }
 }
 
-fn told(there: bool, pair: BytePair, byte: u8) {
+fn told(there: bool, pair: BytePair, byte: u8, cause: Cause) {
     if there {
-        say::moved_pair(pair, byte);
+        say::moved_pair(pair, byte, cause);
     }
 }
 
@@ -26,10 +27,13 @@ fn tell(b: BusOutcome) -> Cgb {
     let answer = b.answer;
     let pairs = b.pairs;
     let bytes = b.bytes;
+    let causes = b.causes;
+    let first = causes.first;
+    let second = causes.second;
     say::bussed(answer);
     let n = count(answer);
-    told(n > 0, pairs[0], bytes[0]);
-    told(n > 1, pairs[1], bytes[1]);
+    told(n > 0, pairs[0], bytes[0], first);
+    told(n > 1, pairs[1], bytes[1], second);
     b.state
 }
 

@@ -5,6 +5,7 @@ use answers::PairAnswer;
 use arithmetic::step::saturating_inc;
 use console::Cgb;
 use transfer::pair::BytePair;
+use transfer::pair::Cause;
 
 // A transfer under way, with what has come of it.
 pub struct Run {
@@ -12,6 +13,7 @@ pub struct Run {
     pub falls: u8,
     pub pairs: u8,
     pub last: BytePair,
+    pub cause: Cause,
 }
 
 pub fn begin(state: Cgb) -> Run {
@@ -20,17 +22,20 @@ pub fn begin(state: Cgb) -> Run {
         falls: 0,
         pairs: 0,
         last: BytePair { source: 0, dest: 0 },
+        cause: Cause::GoingOn,
     }
 }
 
 fn fell(run: Run) -> Run {
     let state = calls::fallen(run.state, 3);
     let last = run.last;
+    let cause = run.cause;
     Run {
         state: state,
         falls: saturating_inc(run.falls),
         pairs: run.pairs,
         last: last,
+        cause: cause,
     }
 }
 
@@ -38,7 +43,7 @@ fn fell(run: Run) -> Run {
 fn turn(run: Run) -> Run {
     let handed = engine::next_byte(run.state);
     let answer = handed.answer;
-    let PairAnswer::Pair(pair) = answer else {
+    let PairAnswer::Pair(pair, cause) = answer else {
         return fell(run);
     };
     let state = handed.state;
@@ -47,6 +52,7 @@ fn turn(run: Run) -> Run {
         falls: run.falls,
         pairs: saturating_inc(run.pairs),
         last: pair,
+        cause: cause,
     }
 }
 
@@ -68,7 +74,8 @@ fn tell(run: Run) {
     say::number(b"pairs: ", run.pairs as u32);
     say::number(b"falls: ", run.falls as u32);
     let last = run.last;
-    say::some_pair(b"last pair: ", last);
+    let cause = run.cause;
+    say::some_pair(b"last pair: ", last, cause);
 }
 
 fn general(high: u8, low: u8, length: u8) -> Run {

@@ -14,6 +14,7 @@ use answers::TallyAnswer;
 use libc::STDOUT_FILENO;
 use memory::byte_at;
 use transfer::pair::BytePair;
+use transfer::pair::Cause;
 
 fn text(bytes: &[u8]) {
     io::write_all(STDOUT_FILENO, bytes);
@@ -53,7 +54,15 @@ fn addresses(p: BytePair) {
     four_digits(p.source);
     text(b" to ");
     four_digits(p.dest);
-    text(b"\n");
+}
+
+// The end of a pair's line: nothing where the run goes on.
+fn cause(k: Cause) {
+    match k {
+        Cause::GoingOn => text(b"\n"),
+        Cause::CountedOut => text(b", counted out\n"),
+        Cause::Carried => text(b", carried\n"),
+    }
 }
 
 // What stands in front of an answer, on its line.
@@ -140,27 +149,26 @@ pub fn fell(answer: ClaimAnswer) {
     }
 }
 
-pub fn some_pair(label: &[u8], p: BytePair) {
+pub fn some_pair(label: &[u8], p: BytePair, k: Cause) {
     text(label);
     addresses(p);
+    cause(k);
 }
 
 pub fn pair(answer: PairAnswer) {
     match answer {
-        PairAnswer::Pair(p) => addresses(p),
+        PairAnswer::Pair(p, k) => some_pair(b"", p, k),
         PairAnswer::None => text(b"none\n"),
         PairAnswer::Refused(n) => refused(n),
     }
 }
 
 // A pair with the byte that it moved.
-pub fn moved_pair(p: BytePair, byte: u8) {
-    four_digits(p.source);
-    text(b" to ");
-    four_digits(p.dest);
+pub fn moved_pair(p: BytePair, byte: u8, k: Cause) {
+    addresses(p);
     text(b": ");
     two_digits(byte);
-    text(b"\n");
+    cause(k);
 }
 
 // How many pairs a bus call moved, and whether a set-up cell used it up.
