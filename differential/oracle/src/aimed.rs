@@ -1,12 +1,14 @@
 //! Aimed vectors: calls on states at rest but for what is named, each condition of the engine on and off by itself, each limit
 //! at its number and beside it. A random state has nearly every field set, so that one condition more or less does not show in
 //! it; here nothing else stands in its way. The original answers every one of them, as everywhere, and object DMA's the second
-//! reading.
+//! reading, as the causes of pairs.
+mod causes;
 mod object_dma;
 
 use std::collections::HashSet;
 use std::io::Write;
 
+use crate::answer::Answer;
 use crate::calls::{Call, Oracle};
 use crate::kind;
 use crate::layout::SIZE;
@@ -123,6 +125,9 @@ fn switch(phase: u8, flags: u8) -> Call {
     c
 }
 
+const HOLD: u8 = 1;
+const SUSPENDED: u8 = 2;
+
 /// hold is bit 0, suspended bit 1, and of arbitration OAM DMA's transfer bit 2.
 fn with_flags(kind: u8, flags: u8) -> Call {
     let mut c = plain(kind);
@@ -134,6 +139,15 @@ fn bus(flags: u8, oam_edge: u64) -> Call {
     let mut c = with_flags(kind::BUS_CALL, flags);
     c.record[8..16].copy_from_slice(&oam_edge.to_le_bytes());
     c
+}
+
+fn bus_inside(flags: u8) -> Call {
+    with_flags(kind::BUS_CALL_FROM_INSIDE, flags)
+}
+
+fn resized(mut call: Call, which: usize, by: i32) -> Call {
+    call.lengths[which] = (call.lengths[which] as i32 + by) as u32;
+    call
 }
 
 fn elapsed(edges: u32) -> Call {
@@ -188,6 +202,37 @@ impl Aim<'_> {
         for double in 0..2 {
             self.around(state.with(&[(DOUBLE, double)]), changes, calls);
         }
+    }
+}
+
+/// A list of calls from power-on. Its vectors are written while `written` is set: some lists are long.
+struct List<'a, 'b> {
+    aim: &'a mut Aim<'b>,
+    state: State,
+    written: bool,
+}
+
+impl<'a, 'b> List<'a, 'b> {
+    fn new(aim: &'a mut Aim<'b>, compat: bool) -> Self {
+        let state = State(aim.oracle.power_on(compat));
+        Self { aim, state, written: true }
+    }
+
+    fn vector(&mut self, call: Call) -> Vector {
+        if self.written {
+            self.aim.ask(self.state, call);
+        }
+        let vector = Vector::of(&mut self.aim.oracle, call, self.state.0);
+        self.state = State(vector.after);
+        vector
+    }
+
+    fn call(&mut self, call: Call) -> Answer {
+        self.vector(call).answer
+    }
+
+    fn set(&mut self, address: u16, value: u8) {
+        assert_eq!(self.call(write(address, value, true)).refusal(), 0);
     }
 }
 
@@ -881,10 +926,6 @@ fn unreached(a: &mut Aim) {
 /// Two reasons at once: document 01's order says which number is given.
 fn two_reasons(a: &mut Aim) {
     let failing: [Settings; 3] = [&[(QUOTA, 3)], &[(BLOCK, 17)], &[(SVBK, 8)]];
-    let short = |mut call: Call, which: usize, by: i32| {
-        call.lengths[which] = (call.lengths[which] as i32 + by) as u32;
-        call
-    };
     // 7 with 1; 1 with 14.
     let pend = a.rest().with(&[(MODE, 2), (LEFT, 32), (PEND, 1), (GRANTED, 255)]);
     a.around(
@@ -898,15 +939,15 @@ fn two_reasons(a: &mut Aim) {
             a.around(
                 a.rest(),
                 &failing[..1],
-                &[access, short(access, 1, -1), short(access, 1, 1), short(access, 0, 1)],
+                &[access, resized(access, 1, -1), resized(access, 1, 1), resized(access, 0, 1)],
             );
         }
     }
     let moving = a.rest().with(&[(BLOCK, 16), (LEFT, 32), (QUOTA, 2), (SOURCE, 0xC000)]);
     for which in 0..4 {
-        let calls = [-1, 1].map(|by| short(bus(1, 0), which, by));
+        let calls = [-1, 1].map(|by| resized(bus(1, 0), which, by));
         a.around(moving, &failing[..1], &calls);
-        a.around(moving, &[], &[short(bus(0, 0), which, 1)]);
+        a.around(moving, &[], &[resized(bus(0, 0), which, 1)]);
     }
     // 7 with 3; then each of 3, 5, 11, 12, 13 with every other.
     let ready = a.rest().with(&[(DOUBLE, 1), (BLOCK, 16), (LEFT, 32)]);
@@ -936,15 +977,17 @@ fn entry(a: &mut Aim) {
     a.around(a.rest().with(&[(LATENCY, 0), (LATENCY_LEFT, 1)]), &[], &[plain(kind::TALLY)]);
 }
 
-/// Object DMA's lists alone, for what is asserted of them.
+/// The lists alone, for what is asserted of them.
 pub fn check_lists() {
-    object_dma::lists(&mut Aim { oracle: Oracle::new(), out: &mut std::io::sink(), seen: HashSet::new() });
+    let mut a = Aim { oracle: Oracle::new(), out: &mut std::io::sink(), seen: HashSet::new() };
+    object_dma::lists(&mut a);
+    causes::lists(&mut a);
 }
 
 pub fn write_all(out: &mut dyn Write) {
     let mut a = Aim { oracle: Oracle::new(), out, seen: HashSet::new() };
     type Part = (&'static str, fn(&mut Aim));
-    let parts: [Part; 30] = [
+    let parts: [Part; 34] = [
         ("write conflict", conflict),
         ("questions", questions),
         ("arbitration", arbitration),
@@ -975,6 +1018,10 @@ pub fn write_all(out: &mut dyn Write) {
         ("object DMA: kept", object_dma::kept),
         ("object DMA: bytes of no state", object_dma::no_state),
         ("object DMA: lists", object_dma::lists),
+        ("causes: each with each", causes::each_with_each),
+        ("causes: blocks", causes::blocks),
+        ("causes: no pair", causes::no_pair),
+        ("causes: lists", causes::lists),
     ];
     power_on(&mut a);
     for (name, part) in parts {

@@ -7,10 +7,10 @@ use crate::replay_step::{Outcome, RECORD, Replay};
 pub type LogRecord = [u8; RECORD];
 
 /// "refusal, pairs, left (two bytes), FF55, source and destination of the pair (two bytes each, zero if none), then zeros, all
-/// little-endian"
+/// little-endian": a pair's cause is not in it.
 #[inline]
 pub fn record(outcome: &Outcome) -> LogRecord {
-    let (source, destination) = outcome.pair.unwrap_or((0, 0));
+    let (source, destination) = outcome.pair.map_or((0, 0), |pair| (pair.source, pair.destination));
     let mut bytes = [0; RECORD];
     bytes[0] = outcome.refusal;
     bytes[1] = outcome.pair.is_some() as u8;

@@ -1,7 +1,8 @@
 //! The calls of document 01, performed by the original. A refusal that the original has no word for is
 //! decided here by document 01's list; where the original says no (5, 11, 12, 13) or overflows (14), the
 //! number is given only because it did, and it is an error of the comparison if it does so elsewhere.
-//! What document 02's A1 adds, object DMA, the original does not have: the second reading (object_dma.rs) performs that.
+//! What document 02's A1 adds, object DMA, the original does not have: the second reading (object_dma.rs) performs that. Nor does it
+//! say how the run goes on after a pair (A3): it hands out the pair, and the second reading (cause.rs) gives the cause.
 use std::panic::{AssertUnwindSafe, catch_unwind};
 
 use missingno_gb::ppu::memory::{Vram, VramAddress};
@@ -9,6 +10,7 @@ use missingno_gb::ppu::rendering::Mode;
 use missingno_gb::{Chassis, ConsoleShadow, VramDmaClaim};
 
 use crate::answer::Answer;
+use crate::cause::{self, Pair, Registers};
 use crate::kind;
 use crate::layout::{self, SIZE};
 use crate::memory::{self, Change, filled};
@@ -63,7 +65,7 @@ impl Call {
     }
 }
 
-/// Whose the answer is.
+/// Whose the answer is; the causes of pairs in it (`Answer::causes`) are always the second reading's.
 #[derive(Clone, Copy, Debug, PartialEq)]
 pub enum Side {
     /// The original's alone; the second reading's state stays.
@@ -150,8 +152,8 @@ impl Oracle {
         layout::encode(&self.cgb, &self.chassis.vram_bus.vram, &self.object_dma)
     }
 
-    /// The whole of memory, as the calls left it: cartridge, WRAM, VRAM, OAM.
-    /// Cartridge, WRAM, VRAM's banks 0 and 1, OAM.
+    /// The whole of memory, as the calls left it: cartridge, WRAM, VRAM's banks 0 and 1, OAM.
+    #[cfg(feature = "port")]
     pub fn memory(&self) -> [&[u8]; 5] {
         let bank = |k: u8| &self.chassis.vram_bus.vram.bank(k).0[..];
         [&self.chassis.cartridge, &self.cgb.wram[..], bank(0), bank(1), &self.chassis.oam]
@@ -242,6 +244,7 @@ impl Oracle {
         self.chassis.dma.edge = start_edge;
         self.chassis.commits.clear();
         let cells = self.cgb.vram_dma.block.setup_cells.remaining();
+        let registers = Registers::of(&self.cgb.vram_dma);
         self.cgb.vram_dma_commit_bytes(&mut self.chassis);
         // Pairs land in VRAM, a deposit in OAM's page.
         let moved = |c: &&(u16, u16, u8)| c.1 < 0xA000;
@@ -249,8 +252,9 @@ impl Oracle {
         assert!(pairs.len() <= 2 && self.chassis.commits.len() <= pairs.len() + 1);
         let cell = self.cgb.vram_dma.block.setup_cells.remaining() < cells;
         let mut answer = Answer::values(&[pairs.len() as u16, cell.into()]);
-        for (k, (source, dest, byte)) in pairs.iter().enumerate() {
-            answer = answer.with_pair(k, *source, *dest, *byte);
+        let causes = cause::of_bus_call(registers, pairs.len(), &self.cgb.vram_dma);
+        for (k, (&&(source, destination, byte), cause)) in pairs.iter().zip(causes).enumerate() {
+            answer = answer.with_pair(k, Pair { source, destination, cause }, byte);
         }
         answer
     }
@@ -350,16 +354,8 @@ impl Oracle {
                     self.cgb.console_state.set_vram_dma_claim(kept);
                 }
             }
-            kind::NEXT_PAIR | kind::ESCAPE_DRAIN => {
-                let pair = if call.record[0] == kind::NEXT_PAIR {
-                    self.cgb.vram_dma.next_byte()
-                } else {
-                    self.cgb.vram_dma.drain_escape()
-                };
-                if let Some((source, dest)) = pair {
-                    answer = Answer::values(&[1, source, dest]);
-                }
-            }
+            kind::NEXT_PAIR => answer = Answer::single(cause::next_pair(&mut self.cgb.vram_dma)),
+            kind::ESCAPE_DRAIN => answer = Answer::single(cause::escape_drain(&mut self.cgb.vram_dma)),
             kind::SPEED_SWITCH => {
                 let phase = call.record[4];
                 if phase > 4 {

@@ -1,10 +1,12 @@
 //! Document 01's cases, run through the original: each number of the paper is asserted of the original itself,
-//! and every call of every case is written as a vector, so that the port can be held beside it. Object DMA's lists, which the aimed
-//! vectors have, are run too, and section 6's six records.
+//! and every call of every case is written as a vector, so that the port can be held beside it. The causes of the pairs, which
+//! document 02's A3 gives them, are asserted of the second reading. The lists of the aimed vectors, object DMA's and the causes', are
+//! run too, and section 6's six records.
 use std::io::Write;
 
 use crate::answer::Answer;
 use crate::calls::{Call, Oracle};
+use crate::cause::Cause;
 use crate::kind;
 use crate::layout::SIZE;
 use crate::vector::Vector;
@@ -12,6 +14,8 @@ use crate::vector::Vector;
 struct Case<'a> {
     oracle: &'a mut Oracle,
     state: [u8; SIZE],
+    /// Of all pairs that came, in order.
+    causes: Vec<u8>,
     out: &'a mut dyn Write,
     /// Vectors are written only while this is set: K9 is long.
     written: bool,
@@ -24,6 +28,7 @@ impl Case<'_> {
             self.out.write_all(&vector.bytes()).unwrap();
         }
         self.state = vector.after;
+        self.causes.extend(vector.answer.causes(call.record[0]));
         vector
     }
     fn call(&mut self, call: Call) -> Answer {
@@ -111,16 +116,40 @@ fn upward(n: u16, source: u16, dest: u16) -> Vec<(u16, u16)> {
     (0..n).map(|k| (source + k, dest + k)).collect()
 }
 
+/// The causes of a run of n pairs: the last has this one, those in front of it go on.
+pub fn run_of(n: usize, last: Cause) -> Vec<u8> {
+    let mut causes = vec![Cause::GoingOn as u8; n];
+    causes[n - 1] = last as u8;
+    causes
+}
+
 fn k1(c: &mut Case) {
     c.set(0xFF55, 0x00);
     assert_eq!(c.rounds(8, 3), upward(16, 0x0000, 0x8000));
     assert_eq!(c.ff55(), 0xFF);
+    assert_eq!(c.causes, run_of(16, Cause::CountedOut));
+}
+
+fn k2(c: &mut Case) {
+    assert_eq!(c.k2(0x80), upward(2, 0x0000, 0x8000));
+    assert_eq!(c.causes, run_of(2, Cause::GoingOn));
 }
 
 fn k3(c: &mut Case) {
     c.set(0xFF55, 0x83);
     c.set(0xFF55, 0x00);
     assert_eq!(c.ff55(), 0x80);
+}
+
+fn k4(c: &mut Case) {
+    assert_eq!(thirty_two(c, 0xFF, 0xF0), upward(16, 0x0000, 0x9FF0));
+    assert_eq!(c.causes, run_of(16, Cause::Carried));
+}
+
+fn k5(c: &mut Case) {
+    let expected = [upward(16, 0x0000, 0x9FF0), upward(16, 0x0010, 0x8000)].concat();
+    assert_eq!(thirty_two(c, 0x9F, 0xF0), expected);
+    assert_eq!(c.causes, run_of(32, Cause::CountedOut));
 }
 
 /// K4 and K5: a General transfer of 32 bytes to this destination.
@@ -138,6 +167,7 @@ fn k6(c: &mut Case) {
     c.fall(0, 0, 0);
     assert_eq!(c.bus(0).0, vec![(0x0002, 0x8002)]);
     assert_eq!((c.left(), c.ff55()), (30, 0x80));
+    assert_eq!(c.causes, run_of(3, Cause::GoingOn));
 }
 
 fn k7(c: &mut Case) {
@@ -190,19 +220,18 @@ fn k9(c: &mut Case) {
 pub fn write(out: &mut dyn Write) {
     crate::six_records::check();
     eprintln!("section 6: the original gives the paper's lines, and the log and verdicts that follow from them");
+    crate::sample::check_causes();
+    eprintln!("the replay's script shows each cause");
     let mut oracle = Oracle::new();
     let mut run = |compat: bool, case: &mut dyn FnMut(&mut Case)| {
         let state = oracle.power_on(compat);
-        case(&mut Case { oracle: &mut oracle, state, out, written: true });
+        case(&mut Case { oracle: &mut oracle, state, causes: Vec::new(), out, written: true });
     };
     run(false, &mut k1);
-    run(false, &mut |c| assert_eq!(c.k2(0x80), upward(2, 0x0000, 0x8000)));
+    run(false, &mut k2);
     run(false, &mut k3);
-    run(false, &mut |c| assert_eq!(thirty_two(c, 0xFF, 0xF0), upward(16, 0x0000, 0x9FF0)));
-    run(false, &mut |c| {
-        let expected = [upward(16, 0x0000, 0x9FF0), upward(16, 0x0010, 0x8000)].concat();
-        assert_eq!(thirty_two(c, 0x9F, 0xF0), expected);
-    });
+    run(false, &mut k4);
+    run(false, &mut k5);
     run(false, &mut k6);
     run(false, &mut k7);
     for (block, oam, second) in [(100, 98, true), (100, 92, true), (100, 96, false), (100, 94, false), (0, 0, true)] {
@@ -213,7 +242,7 @@ pub fn write(out: &mut dyn Write) {
         c.set(0xFF55, 0x00);
         assert_eq!(c.ff55(), 0xFF);
     });
-    eprintln!("K1 to K10: the original gives the paper's numbers");
+    eprintln!("K1 to K10: the original gives the paper's numbers, and the second reading the causes of their pairs");
     crate::aimed::check_lists();
-    eprintln!("object DMA: the second reading gives the request's numbers");
+    eprintln!("object DMA and the causes of pairs: the second reading gives the requests' numbers");
 }

@@ -2,13 +2,14 @@
 //! entry, and answer, whole state and all of memory are compared after it. Half of the lists start at power-on, half of
 //! the calls at arbitrary states. A refusal is checked for its number, for an answer of that number and zeros, and for
 //! state and memory as before. What the original has no call for, a record of another kind and bytes that no state has,
-//! is given to the port alone, now and then. Object DMA, which it does not have, is held beside the second reading, and the
-//! report keeps the two apart.
+//! is given to the port alone, now and then. Object DMA, which it does not have, is held beside the second reading, and so are the
+//! causes of pairs in answers that are otherwise the original's; the report keeps the two apart.
 use cgb_vram_dma::Memory;
 use cgb_vram_dma::entry;
 
 use crate::answer::{self, Answer};
 use crate::calls::{Call, Oracle, Outcome, Side};
+use crate::cause_counts::CauseCounts;
 use crate::finer;
 use crate::kind;
 use crate::layout::SIZE;
@@ -56,8 +57,8 @@ const NAMES: [&str; kind::LAST as usize + 1] = [
 
 /// The sides that a call is held beside, as the report names them.
 const SIDES: [(Side, &str); 3] = [
-    (Side::Original, "the original"),
-    (Side::Joined, "the original, with an input from the second reading"),
+    (Side::Original, "the original, but for the causes of pairs"),
+    (Side::Joined, "the original, with an input from the second reading, but for the causes of pairs"),
     (Side::SecondReading, "the second reading"),
 ];
 
@@ -127,7 +128,10 @@ struct Report {
     /// Given to the port alone: records of no call, and bytes that no state has.
     no_call: u64,
     no_state: u64,
+    causes: CauseCounts,
     differ: u64,
+    /// Of those, in the cause of a pair alone.
+    differ_in_cause: u64,
 }
 
 impl Report {
@@ -141,7 +145,9 @@ impl Report {
             deposits_behind: 0,
             no_call: 0,
             no_state: 0,
+            causes: CauseCounts::default(),
             differ: 0,
+            differ_in_cause: 0,
         }
     }
 
@@ -154,6 +160,9 @@ impl Report {
             println!("beside {name}: {}", rows.iter().map(|&k| self.calls[k]).sum::<u64>());
             rows.into_iter().for_each(|k| self.print_row(k));
         }
+        println!("beside the second reading, the causes of pairs: {}", self.causes.pairs());
+        println!("{}", self.causes);
+        println!("calls that differ in the cause alone {}", self.differ_in_cause);
         println!("deposits in OAM {}", self.deposits);
         println!("object DMA's last byte counted {}, deposits behind it {}", self.last_bytes, self.deposits_behind);
         println!("records of no call, 6: {}; bytes that no state has, 7: {}", self.no_call, self.no_state);
@@ -170,6 +179,7 @@ impl Report {
     fn count(&mut self, call: &Call, before: &[u8; SIZE], answer: &Answer) {
         let row = row(call);
         self.calls[row] += 1;
+        self.causes.count(call, before, answer);
         self.refusals[row][answer.refusal() as usize] += 1;
         if answer.refusal() != 0 {
             return;
@@ -265,11 +275,13 @@ impl Run {
             self.synchronise();
         }
         let Gave { result, state, answer } = self.port.perform(call, before);
-        let mut same = result == outcome.answer.refusal() && answer == outcome.answer;
+        let but_for_causes = |answer: Answer| answer.without_causes(call.record[0]);
+        let mut same = result == outcome.answer.refusal() && but_for_causes(answer) == but_for_causes(outcome.answer);
         same &= state == outcome.state;
         same &= self.spare() == spare;
         same &= self.same_memory();
-        if !same {
+        if !same || answer != outcome.answer {
+            self.report.differ_in_cause += same as u64;
             let (side, wanted) = (call.side(), outcome.answer);
             self.differs(format!("{call:?}\n  before {before:?}\n  {side:?} {wanted:?}\n  port {answer:?}"));
         }
@@ -299,10 +311,13 @@ pub fn run(given: &[String], usage: &str) {
         let mut now = run.oracle.power_on(compat);
         assert_eq!(now, run.port.power_on(compat));
         run.rising = rising.then_some(0);
-        let mut drive = vectors::Drive::new();
+        let mut drive = vectors::Drive::to_ends();
         for step in 0..if listed { 64 + r.below(960) } else { 128 } {
             let mut call = if listed { drive.next(&mut r, &kinds, step) } else { vectors::call(&mut r, &kinds) };
-            let before = if listed { now } else { vectors::state(&mut r, &kinds) };
+            let mut before = if listed { now } else { vectors::state(&mut r, &kinds) };
+            if !listed {
+                vectors::near_end(&r, &call, &mut before);
+            }
             finer::aim(&mut r, &mut call, &before);
             run.raise(&mut call);
             let outcome = run.step(&call, &before);

@@ -1,7 +1,7 @@
 //! The original VRAM DMA and speed switch as an oracle: its own files, unchanged, over document 01's
 //! stand-ins (the crate missingno_gb beside this one). It writes vectors: a call, the state before, the
 //! original's answer, the state and the changed bytes of memory after. Object DMA, which the original does not have, is a
-//! second reading of document 02 (object_dma.rs), kept beside it. The replay of document 01 and the log and judge of document 02
+//! second reading of document 02 (object_dma.rs), kept beside it; so are the causes of pairs (cause.rs). The replay of document 01 and the log and judge of document 02
 //! perform a script's records over it.
 //!
 //!     MISSINGNO_SRC=.. cargo run --release -- vectors SEED COUNT [KINDS] > FILE
@@ -28,6 +28,8 @@ mod answer;
 pub mod board_log;
 mod calls;
 mod cases;
+mod cause;
+mod cause_counts;
 #[cfg(feature = "port")]
 mod compare;
 pub mod entry;

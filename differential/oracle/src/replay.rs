@@ -20,7 +20,8 @@ fn put_number(out: &mut Vec<u8>, mut n: u64) {
     out.push(b' ');
 }
 
-/// "Each line: record from 0, refusal or 0, pairs, left, FF55 in two capitals."
+/// "Each line: record from 0, refusal or 0, pairs, left, FF55 in two capitals." Document 02, A3: "the replay line shows it as a sixth
+/// field, 0, 1 or 2, zero without a pair".
 #[inline(always)]
 fn put_line(out: &mut Vec<u8>, number: u64, outcome: &Outcome) {
     const HEX: &[u8; 16] = b"0123456789ABCDEF";
@@ -28,7 +29,9 @@ fn put_line(out: &mut Vec<u8>, number: u64, outcome: &Outcome) {
     put_number(out, outcome.refusal as u64);
     put_number(out, outcome.pair.is_some() as u64);
     put_number(out, outcome.left as u64);
-    out.extend_from_slice(&[HEX[outcome.ff55 as usize / 16], HEX[outcome.ff55 as usize % 16], b'\n']);
+    let (high, low) = (HEX[outcome.ff55 as usize / 16], HEX[outcome.ff55 as usize % 16]);
+    let cause = outcome.pair.map_or(0, |pair| pair.cause as u8);
+    out.extend_from_slice(&[high, low, b' ', b'0' + cause, b'\n']);
 }
 
 pub fn run(input: &mut impl Read, output: &mut impl Write) -> Result<()> {

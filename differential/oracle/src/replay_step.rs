@@ -1,7 +1,7 @@
 //! One record of document 01's replay over the original: its bytes to an outcome. The replay's line (replay.rs), the log's
 //! record (board_log.rs) and the judge (judge.rs) come from this one value. The original's own state is kept and nothing is
 //! decoded between records, as in the port's programs. A write to FF46 goes to the second reading, of which only the refusal
-//! shows.
+//! shows; a pair's cause is the second reading's (cause.rs).
 use std::panic::{AssertUnwindSafe, catch_unwind};
 
 use missingno_gb::ppu::rendering::Mode;
@@ -9,14 +9,12 @@ use missingno_gb::{Chassis, ConsoleShadow};
 
 use crate::Cgb;
 use crate::calls::{self, Call};
+use crate::cause::{self, Pair};
 use crate::kind;
 use crate::layout;
 use crate::object_dma::ObjectDma;
 
 pub const RECORD: usize = 16;
-
-/// Source and destination, as the original's answer has them.
-pub type Pair = (u16, u16);
 
 pub struct Outcome {
     /// 0 where the call was accepted.
@@ -61,10 +59,10 @@ impl Replay {
         match call.record[0] {
             kind::WRITE => return (self.write(call), None),
             kind::FALL => return (self.fall(call), None),
-            kind::NEXT_PAIR => return (0, self.cgb.vram_dma.next_byte()),
+            kind::NEXT_PAIR => return (0, cause::next_pair(&mut self.cgb.vram_dma)),
             kind::SPEED_SWITCH => return (self.switch(call), None),
             kind::LCD_OFF => self.cgb.vram_dma_on_lcd_disabled(),
-            kind::ESCAPE_DRAIN => return (0, self.cgb.vram_dma.drain_escape()),
+            kind::ESCAPE_DRAIN => return (0, cause::escape_drain(&mut self.cgb.vram_dma)),
             kind::BLACKOUT_DRAIN => {
                 let elapsed = u32::from_le_bytes(call.record[8..12].try_into().unwrap());
                 self.cgb.drain_blackout(elapsed);

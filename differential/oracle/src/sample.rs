@@ -1,17 +1,20 @@
 //! The scripts that are stored as crates/replay/stdin and crates/judge/data/script: document 01's six records, then what these
 //! leave out. But for these six, the long repetitions and the calls at random, each record has junk in every bit that its kind
 //! ignores.
+use std::collections::HashSet;
 use std::io::Write;
 
+use crate::cause::Cause;
 use crate::fill::BUFFER;
 use crate::kind;
 use crate::object_dma::REGISTER;
 use crate::random::Random;
+use crate::replay_step::Replay;
 use crate::vectors;
 
 type Record = [u8; 16];
 
-/// Of the replay's script, in front of its short record.
+/// Of the replay's script, in front of the runs' ends and its short record.
 const RECORDS: usize = 10_200;
 
 /// Of the judge's: somewhat more than a buffer.
@@ -259,6 +262,38 @@ impl Script {
         }
     }
 
+    fn destination(&mut self, high: u8, low: u8) {
+        self.put_junked(&[write(0xFF53, high), write(0xFF54, low)]);
+    }
+
+    /// A block in HBlank up to its last byte, then a switch that cuts it, with an interrupt ready.
+    fn cut_at_last(&mut self, length: u8) {
+        let pair = plain(kind::NEXT_PAIR);
+        self.half_a_block(length);
+        for _ in 0..6 {
+            self.put_junked(&[fall(0, 0), pair, pair]);
+        }
+        self.put_junked(&[fall(0, 0), pair, write(0xFF4D, 0x01), switch(2, 2), fall(3, 0)]);
+    }
+
+    /// The ends that the rest leaves out, for a pair's cause, at single speed: a General transfer that carries where it would be
+    /// counted out; free bytes that carry, one drained and one by a next pair; one that goes on with 1 left. A cut leaves double speed.
+    fn ends(&mut self) {
+        let (pair, drain, armed) = (plain(kind::NEXT_PAIR), plain(kind::ESCAPE_DRAIN), write(0xFF4D, 0x01));
+        let over = blackout(u32::MAX);
+        self.put_junked(&[over]);
+        self.destination(0xFF, 0xF0);
+        self.general(0x00, 9);
+        self.settle();
+        for (high, low, length, call) in [(0xFF, 0xF0, 0x81, drain), (0xFF, 0xF0, 0x80, pair), (0x80, 0x00, 0x80, pair)]
+        {
+            self.destination(high, low);
+            self.cut_at_last(length);
+            self.put_junked(&[call, call, over, armed, switch(4, 0), over]);
+            self.put_junked(&[fall(3, 0); 8]);
+        }
+    }
+
     /// Calls as the other runs make them, until there are so many records.
     fn random_until(&mut self, count: usize) {
         let kinds: Vec<u8> = (kind::WRITE..=kind::BLACKOUT_DRAIN).collect();
@@ -271,8 +306,8 @@ impl Script {
     }
 }
 
-/// The last record is 15 bytes of a write that would leave 16.
-pub fn write_replayed(output: &mut impl Write) -> std::io::Result<()> {
+/// Whole records; behind them the replay's script has a short one.
+fn replayed() -> Vec<Record> {
     let mut script = Script::new();
     script.paper();
     script.kinds();
@@ -283,8 +318,38 @@ pub fn write_replayed(output: &mut impl Write) -> std::io::Result<()> {
     script.lengths(&[131_077, 262_144, 131_079, 262_144, 131_079]);
     script.starts();
     script.random_until(RECORDS);
-    output.write_all(&script.records.concat())?;
+    script.ends();
+    script.records
+}
+
+/// The last record is 15 bytes of a write that would leave 16.
+pub fn write_replayed(output: &mut impl Write) -> std::io::Result<()> {
+    output.write_all(&replayed().concat())?;
     output.write_all(&write(0xFF55, 0x00)[..15])
+}
+
+/// The replay's script shows each cause that each kind of record can have, with 1 left in front of the pair and with more; with 1 left
+/// only a free pair goes on.
+pub fn check_causes() {
+    let mut replay = Replay::power_on();
+    let mut shown = HashSet::new();
+    let mut left = 0;
+    for record in replayed() {
+        let outcome = replay.step(record);
+        shown.extend(outcome.pair.map(|pair| (record[0], pair.cause as u8, left == 1)));
+        left = outcome.left;
+    }
+    for (kind, cause, one_left) in [
+        (kind::NEXT_PAIR, Cause::GoingOn, false),
+        (kind::NEXT_PAIR, Cause::GoingOn, true),
+        (kind::NEXT_PAIR, Cause::CountedOut, true),
+        (kind::NEXT_PAIR, Cause::Carried, false),
+        (kind::NEXT_PAIR, Cause::Carried, true),
+        (kind::ESCAPE_DRAIN, Cause::GoingOn, false),
+        (kind::ESCAPE_DRAIN, Cause::Carried, false),
+    ] {
+        assert!(shown.contains(&(kind, cause as u8, one_left)), "kind {kind}, {cause:?}, 1 left {one_left}");
+    }
 }
 
 /// Whole records alone. Without the longest transfer, but with pairs all over the map; a transfer runs across a buffer's end.

@@ -1,5 +1,6 @@
 //! Document 01's six records of section 6 through the replay, the log and the judge over the original. Nothing expected here
-//! came from a run: the lines are the paper's, the log's records are worked out from them and from document 02, A2.
+//! came from a run: the lines are the paper's, with the sixth field that document 02's A3 gives them, the log's records are worked out
+//! from them and from A2.
 use std::ffi::OsString;
 
 use crate::judge::{self, Verdict};
@@ -16,7 +17,8 @@ const SCRIPT: [[u8; RECORD]; 6] = [
     [9, 0, 0, 0, 0, 0, 0, 0, 0, 0, 0, 0, 0, 0, 0, 0],
 ];
 
-const LINES: &str = "0 0 0 16 80\n1 0 0 16 80\n2 0 1 15 FF\n3 0 1 14 FF\n4 0 0 14 FF\n5 6 0 14 FF\n";
+/// "the six lines in document 01 gain it": both pairs go on, and the other four lines have none.
+const LINES: &str = "0 0 0 16 80 0\n1 0 0 16 80 0\n2 0 1 15 FF 0\n3 0 1 14 FF 0\n4 0 0 14 FF 0\n5 6 0 14 FF 0\n";
 
 /// Both pointers are 0 at power-on: the pairs are 0000h to 8000h and 0001h to 8001h.
 const LOG: [[u8; RECORD]; 6] = [

@@ -1,11 +1,13 @@
 //! Vectors at random: half of them step lists of calls from power-on, half start from arbitrary states, of which a few
 //! fail refusal 7. Object DMA's part of a state and of a write is drawn aside: a seed and the kinds 1 to 26 give the other bytes
-//! as they were before there was one.
+//! as they were before there was one. That runs come near their ends is asked for: what `select` and `object_dma` take is drawn
+//! without it, as before.
 use std::collections::HashSet;
 use std::io::{BufWriter, Read, Write};
 
-use crate::answer::Answer;
+use crate::answer::{self, Answer};
 use crate::calls::{Call, Oracle, Side};
+use crate::cause_counts::CauseCounts;
 use crate::kind;
 use crate::layout::SIZE;
 use crate::object_dma;
@@ -135,11 +137,21 @@ pub struct Drive {
     due: Due,
     /// M-cycle calls that come one after the other, so that 160 are reached.
     burst: u64,
+    /// Where short runs are started now and then: the writes that are still to come, the next one last.
+    short_run: Option<Vec<Call>>,
 }
 
 fn with_flags(kind: u8, flags: u8) -> Call {
     let mut c = Call::new(kind);
     c.record[5] = flags;
+    c
+}
+
+/// With the LCD on.
+fn write_register(address: u16, value: u8) -> Call {
+    let mut c = with_flags(kind::WRITE, 1);
+    c.record[2..4].copy_from_slice(&address.to_le_bytes());
+    c.record[4] = value;
     c
 }
 
@@ -151,12 +163,22 @@ fn m_cycle(said: u8) -> Call {
 
 impl Drive {
     pub fn new() -> Self {
-        Self { cpu: 5, due: Due::Nothing, burst: 0 }
+        Self { cpu: 5, due: Due::Nothing, burst: 0, short_run: None }
+    }
+
+    /// Runs come to their ends more often.
+    pub fn to_ends() -> Self {
+        Self { short_run: Some(Vec::new()), ..Self::new() }
     }
 
     /// A call that drives a transfer: what a console does, with something else now and then. Object DMA is driven where its
     /// M-cycle is among the kinds.
     pub fn next(&mut self, r: &mut Random, kinds: &[u8], step: u64) -> Call {
+        if kinds.contains(&kind::WRITE)
+            && let Some(call) = self.short_run(r)
+        {
+            return call;
+        }
         if kinds.contains(&kind::OBJECT_DMA_M_CYCLE)
             && let Some(mut call) = self.object_dma(r, step)
         {
@@ -172,6 +194,17 @@ impl Drive {
         if arbitrates && answer.refusal() == 0 {
             self.due = Due::Cycle(call.record[5] & 3, answer.nth(0) as u8);
         }
+    }
+
+    /// If nothing comes between, half of the runs carry at their 16th pair; of the others those of 16 bytes are counted out there.
+    fn short_run(&mut self, r: &mut Random) -> Option<Call> {
+        let writes = self.short_run.as_mut()?;
+        if writes.is_empty() && r.one_in(64) {
+            writes.push(write_register(0xFF55, r.pick(&[0x00, 0x01, 0x80, 0x81])));
+            writes.push(write_register(0xFF54, 0xF0));
+            writes.push(write_register(0xFF53, r.pick(&[0xFF, 0xFF, 0x9F, 0x00])));
+        }
+        writes.pop()
     }
 
     fn object_dma(&mut self, r: &mut Random, step: u64) -> Option<Call> {
@@ -388,19 +421,44 @@ pub fn state(r: &mut Random, kinds: &[u8]) -> [u8; SIZE] {
     s
 }
 
-/// Makes vectors and hands each to `take`, until it has been given `count` or says that it has enough.
-fn generate(seed: u64, count: u64, kinds: &[u8], mut take: impl FnMut(&Vector) -> bool) {
+/// Half of the states in front of a call that answers with pairs come near a run's end: the destination at FFFFh or below it, little
+/// left, an escape owed or not, nothing in the first pair's way. Drawn aside.
+pub fn near_end(r: &Random, call: &Call, s: &mut [u8; SIZE]) {
+    let mut r = r.aside();
+    if !answer::has_pairs(call.record[0]) || r.flag() {
+        return;
+    }
+    let dest: u16 = r.pick(&[0xFFFF, 0xFFFF, 0xFFFE, 0xFFFE, 0xFFFD, 0x9FFF]);
+    s[2..4].copy_from_slice(&dest.to_le_bytes());
+    let left: u16 = r.pick(&[1, 1, 2, 2, 3, 16, 257]);
+    s[5..7].copy_from_slice(&left.to_le_bytes());
+    s[7] = 1 + r.below(2) as u8;
+    s[8] = r.flag() as u8;
+    // Any mode. Where it is not General a block moves.
+    s[4] = r.below(3) as u8;
+    if s[4] != 1 {
+        s[9] = r.pick(&[1, 2, 15, 16]);
+    }
+    s[19..21].fill(0);
+}
+
+/// Makes vectors and hands each to `take`, until it has been given `count` or says that it has enough. `to_ends`: runs come to their
+/// ends more often.
+fn generate(seed: u64, count: u64, kinds: &[u8], to_ends: bool, mut take: impl FnMut(&Vector) -> bool) {
     let mut r = Random::new(seed);
     let mut oracle = Oracle::new();
     let mut given = 0;
     while given < count {
         let listed = r.flag();
         let mut now = oracle.power_on(r.one_in(16));
-        let mut drive = Drive::new();
+        let mut drive = if to_ends { Drive::to_ends() } else { Drive::new() };
         for step in 0..if listed { 64 + r.below(192) } else { 128 } {
             // A list of calls goes on from power-on; else each call has a state of its own.
             let c = if listed { drive.next(&mut r, kinds, step) } else { call(&mut r, kinds) };
-            let before = if listed { now } else { state(&mut r, kinds) };
+            let mut before = if listed { now } else { state(&mut r, kinds) };
+            if to_ends && !listed {
+                near_end(&r, &c, &mut before);
+            }
             let vector = Vector::of(&mut oracle, c, before);
             drive.heard(&vector.call, &vector.answer);
             now = vector.after;
@@ -444,8 +502,13 @@ fn words(words: &[String], usage: &str) -> Words {
 pub fn write(given: &[String], usage: &str) {
     let w = words(given, usage);
     let mut out = BufWriter::new(std::io::stdout().lock());
-    generate(w.seed, w.count, &w.kinds, |vector| out.write_all(&vector.bytes()).is_ok());
+    let mut causes = CauseCounts::default();
+    generate(w.seed, w.count, &w.kinds, true, |v| {
+        causes.count(&v.call, &v.before, &v.answer);
+        out.write_all(&v.bytes()).is_ok()
+    });
     out.flush().unwrap();
+    eprintln!("{causes}");
 }
 
 /// The part of the map that a byte is read from: it changes with the source's upper four bits.
@@ -515,7 +578,7 @@ pub fn select(given: &[String], usage: &str, object_dma: bool) {
     let w = words(given, usage);
     let mut out = BufWriter::new(std::io::stdout().lock());
     let mut seen = HashSet::new();
-    generate(w.seed, w.count, &w.kinds, |v| {
+    generate(w.seed, w.count, &w.kinds, false, |v| {
         if object_dma && v.call.side() == Side::Original {
             return true;
         }
@@ -531,6 +594,7 @@ pub fn select(given: &[String], usage: &str, object_dma: bool) {
 pub fn stored(input: &mut dyn Read) {
     let mut oracle = Oracle::new();
     let (mut count, mut second, mut joined, mut differ) = (0u64, 0u64, 0u64, 0u64);
+    let mut causes = CauseCounts::default();
     let mut kinds = HashSet::new();
     let mut bytes = [0u8; vector::BYTES];
     while input.read_exact(&mut bytes).is_ok() {
@@ -539,11 +603,14 @@ pub fn stored(input: &mut dyn Read) {
         second += (vector.call.side() == Side::SecondReading) as u64;
         joined += (vector.call.side() == Side::Joined) as u64;
         differ += (vector.bytes() != bytes) as u64;
+        causes.count(&vector.call, &vector.before, &vector.answer);
         kinds.insert(bytes[0]);
     }
     let missing: Vec<u8> = (0..=kind::LAST).filter(|k| !kinds.contains(k)).collect();
     println!("{count} stored vectors, {differ} differ from the oracle's");
     println!("of them the second reading's alone {second}, the original's with an input from it {joined}");
+    println!("the causes of their pairs, all of them the second reading's: {}", causes.pairs());
+    println!("{causes}");
     if !missing.is_empty() {
         println!("no stored vector of kind {missing:?}");
     }

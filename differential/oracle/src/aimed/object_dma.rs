@@ -1,7 +1,6 @@
 //! Aimed vectors of object DMA (document 02, A1): its write, its M-cycle, the two calls from inside, the query, what every other
 //! call leaves of it; then lists from power-on, of which the request's numbers are asserted.
 use super::*;
-use crate::answer::Answer;
 use crate::memory::filled;
 use crate::object_dma::REGISTER;
 
@@ -15,9 +14,6 @@ const OBJECT_EDGE: Field = Field(94, 8);
 const CLEAR: u8 = 0;
 const CONTENDS: u8 = 1;
 const STALL: u8 = 2;
-
-const HOLD: u8 = 1;
-const SUSPENDED: u8 = 2;
 
 fn start(page: u8, edge: u64) -> Call {
     with_edge(write(REGISTER, page, true), edge)
@@ -38,17 +34,8 @@ fn arbitrate(flags: u8) -> Call {
     with_flags(kind::ARBITRATION_FROM_INSIDE, flags)
 }
 
-fn bus_inside(flags: u8) -> Call {
-    with_flags(kind::BUS_CALL_FROM_INSIDE, flags)
-}
-
 fn query() -> Call {
     plain(kind::OBJECT_DMA)
-}
-
-fn resized(mut call: Call, which: usize, by: i32) -> Call {
-    call.lengths[which] = (call.lengths[which] as i32 + by) as u32;
-    call
 }
 
 /// 57 bytes of page 12h are counted.
@@ -345,36 +332,7 @@ pub fn no_state(a: &mut Aim) {
     a.ask(over, plain(kind::LAST + 1));
 }
 
-/// A list of calls from power-on. Its vectors are written while `written` is set: 160 M-cycles are long.
-struct List<'a, 'b> {
-    aim: &'a mut Aim<'b>,
-    state: State,
-    written: bool,
-}
-
-impl<'a, 'b> List<'a, 'b> {
-    fn new(aim: &'a mut Aim<'b>, compat: bool) -> Self {
-        let state = State(aim.oracle.power_on(compat));
-        Self { aim, state, written: true }
-    }
-
-    fn vector(&mut self, call: Call) -> Vector {
-        if self.written {
-            self.aim.ask(self.state, call);
-        }
-        let vector = Vector::of(&mut self.aim.oracle, call, self.state.0);
-        self.state = State(vector.after);
-        vector
-    }
-
-    fn call(&mut self, call: Call) -> Answer {
-        self.vector(call).answer
-    }
-
-    fn set(&mut self, address: u16, value: u8) {
-        assert_eq!(self.call(write(address, value, true)).refusal(), 0);
-    }
-
+impl List<'_, '_> {
     fn start(&mut self, page: u8, edge: u64) {
         assert_eq!(self.call(start(page, edge)).refusal(), 0);
     }
