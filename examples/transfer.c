@@ -1,4 +1,4 @@
-/* A General transfer of 16 bytes, from the cartridge to VRAM, printed as it moves.
+/* A General transfer of 16 bytes, from the cartridge to VRAM, printed as it moves. The cause of its last pair says that it was the last.
  *
  *     sh tools/library
  *     cc -Iinclude examples/transfer.c target/lib/libcgb_vram_dma.a -o target/transfer && target/transfer
@@ -27,23 +27,27 @@ static void accepted(uint8_t refusal)
     }
 }
 
-static unsigned status(void)
-{
-    accepted(cgb_status(state, answer));
-    return cgb_value(answer, CGB_STATUS_TRANSFER);
-}
-
 int main(void)
 {
+    uint8_t cause = CGB_CAUSE_GOING_ON;
+    size_t pairs;
+
     for (size_t i = 0; i < sizeof cartridge; i++)
         cartridge[i] = (uint8_t)(i * 3 + 1);
     cgb_power_on(state, 0);
     accepted(cgb_write(state, answer, 0xFF55, 0x00, 1, wram, sizeof wram)); /* LCD on */
-    while (status() != CGB_TRANSFER_IDLE) {
+    do {
         accepted(cgb_fall(state, answer, 3, 0, 0)); /* mode 3, running */
         accepted(cgb_bus_call(state, answer, CGB_HOLD, 0, &memory));
-        for (size_t k = 0; k < cgb_value(answer, CGB_BUS_PAIRS); k++)
+        pairs = cgb_value(answer, CGB_BUS_PAIRS);
+        for (size_t k = 0; k < pairs; k++) {
             printf("%04X -> %04X: %02X\n", cgb_pair_source(answer, k), cgb_pair_destination(answer, k), cgb_pair_byte(answer, k));
+            cause = cgb_pair_cause(answer, k);
+        }
+    } while (pairs > 0 && cause == CGB_CAUSE_GOING_ON);
+    if (cause != CGB_CAUSE_COUNTED_OUT) { /* carried, past FFFFh, would have cut some of the 16 off */
+        fprintf(stderr, "the last pair: %s\n", cgb_cause_text(cause));
+        return 1;
     }
     for (size_t i = 0; i < 16; i++)
         if (vram[i] != cartridge[i])

@@ -15,11 +15,12 @@
 #include <stdint.h>
 
 /* 10000 times the first number, 100 times the second, and the third. The first grows where a name goes, or where a signature or a
- * layout becomes another; until then a program that compiled still compiles and links, and its states are still taken. The second
- * grows with each landing (docs/LANDINGS.md: base 8 is 1.8, A1 1.9, A2 1.10), which adds names, and may accept what was refused:
- * docs/LIBRARY.md says what to look at. The third grows with a correction between two. */
-#define CGB_VRAM_DMA_VERSION 11000
-#define CGB_VRAM_DMA_VERSION_TEXT "1.10.0"
+ * layout becomes another, here or in the Rust wrapper; until then a program that compiled still compiles and links, and its states
+ * are still taken. Otherwise the second grows with each landing (docs/LANDINGS.md: base 8 is 1.8, A1 1.9, A2 1.10, A3 2.0), which adds
+ * names, and may accept what was refused: docs/LIBRARY.md says what to look at. The third grows with a correction between two.
+ * 2.0 is the wrapper's, where a struct has a field more: here every name, signature and place of 1.10 is as it was. */
+#define CGB_VRAM_DMA_VERSION 20000
+#define CGB_VRAM_DMA_VERSION_TEXT "2.0.0"
 
 #ifdef __cplusplus
 extern "C" {
@@ -130,17 +131,17 @@ enum {
  *   2 fall                     4 mode 0-3 (0 is HBlank); 5 bits 0-3 halted, IRQ latched, stopped, OAM DMA owns a bus;
  *                              8-15 master edge
  *                              -> committed, standing
- *   3 next pair                -> 1, source, destination; or 0 for none
+ *   3 next pair                -> 1, source, destination, cause: 0 going on, 1 counted out, 2 carried; or 0 for none
  *   4 speed switch             4 dot phase 0-3, or 4 for none; 5 bits 0-1 hold, interrupt ready; 8-15 master edge
  *                              -> 0 none, 1 discarded, 2 cut
  *   5 LCD off                  -> none
- *   6 escape drain             -> 1, source, destination; or 0 for none
+ *   6 escape drain             -> 1, source, destination, cause: 0 going on, 1 counted out, 2 carried; or 0 for none
  *   7 blackout drain           8-11 elapsed edges
  *                              -> a flag
  *   8 read                     2-3 address
  *                              -> a byte
  *   9 bus call                 5 bits 0-1 hold, suspended; 8-15 OAM DMA's start edge
- *                              -> how many pairs, set-up cell used
+ *                              -> how many pairs, set-up cell used; the pairs' causes in bytes 20 and 21
  *  10 arbitration              5 bits 0-2 hold, suspended, OAM DMA transfers
  *                              -> 0 clear, 1 contended, 2 stall
  *  11 write conflict           2-3 address: does a CPU read of it meet the byte that the engine is writing there?
@@ -167,18 +168,19 @@ enum {
  *  28 arbitration from inside  5 bits 0-1 hold, suspended
  *                              -> 0 clear, 1 contended, 2 stall
  *  29 bus call from inside     5 bits 0-1 hold, suspended
- *                              -> how many pairs, set-up cell used
+ *                              -> how many pairs, set-up cell used; the pairs' causes in bytes 20 and 21
  *  30 object DMA               -> runs, bytes counted, page
  * (calls.txt: end)
  */
 
-/* ---- An answer's 24 bytes; values that a kind lacks are 0, and so are bytes 1 and 20 to 23 ---- */
+/* ---- An answer's 24 bytes; values and pairs that a call lacks are 0, and so are bytes 1, 22 and 23 ---- */
 
 enum {
     CGB_ANSWER_REFUSAL = 0,
-    CGB_ANSWER_VALUES = 2,      /* four of two bytes */
-    CGB_ANSWER_PAIRS = 10,      /* a bus call's: source and destination of two bytes each, of the first pair, then of the second */
-    CGB_ANSWER_PAIR_BYTES = 18  /* a bus call's: the byte of each pair; an object DMA M-cycle's: the byte that it moved */
+    CGB_ANSWER_VALUES = 2,       /* four of two bytes */
+    CGB_ANSWER_PAIRS = 10,       /* a bus call's: source and destination of two bytes each, of the first pair, then of the second */
+    CGB_ANSWER_PAIR_BYTES = 18,  /* a bus call's: the byte of each pair; an object DMA M-cycle's: the byte that it moved */
+    CGB_ANSWER_PAIR_CAUSES = 20  /* a bus call's: the cause of each pair, a byte each, CGB_CAUSE_GOING_ON, _COUNTED_OUT or _CARRIED */
 };
 
 /* A refused call's number. */
@@ -222,7 +224,8 @@ static inline const char *cgb_refusal_text(uint8_t refusal)
     }
 }
 
-/* Which value of the answer is what, for cgb_value. A call that is not here has one value, 0, or none. */
+/* Which value of the answer is what, for cgb_value. A call that is not here has one value, 0, or none; a next pair and an escape drain
+ * have functions, cgb_handed and so on. */
 enum {
     /* fall, claim */
     CGB_CLAIM_COMMITTED = 0,
@@ -258,6 +261,26 @@ enum { CGB_SWITCH_NONE = 0, CGB_SWITCH_DISCARDED = 1, CGB_SWITCH_CUT = 2 };
 enum { CGB_ARBITRATION_CLEAR = 0, CGB_ARBITRATION_CONTENDED = 1, CGB_ARBITRATION_STALL = 2 };
 enum { CGB_CYCLE_NOTHING = 0, CGB_CYCLE_MOVED = 1, CGB_CYCLE_PASSED_OVER = 2 };
 
+/* A pair's cause: how the run goes on behind it. Next pair and escape drain answer with their pair's, a bus call with each pair's own; it
+ * is 0 also where no pair came. It is above 0 exactly where no byte is left behind the pair: that pair was the last. One that pays an
+ * escape takes nothing from left, so it is going on, unless it carries: an escape drain never answers counted out. Of the two pairs of
+ * a bus call the first is going on. The state does not keep it. */
+enum {
+    CGB_CAUSE_GOING_ON = 0,    /* bytes are left */
+    CGB_CAUSE_COUNTED_OUT = 1, /* left fell to 0 */
+    CGB_CAUSE_CARRIED = 2      /* the destination register went past FFFFh, and what was left is cut off; also where left would be 0 anyway */
+};
+
+static inline const char *cgb_cause_text(uint8_t cause)
+{
+    switch (cause) {
+    case CGB_CAUSE_GOING_ON: return "going on";
+    case CGB_CAUSE_COUNTED_OUT: return "counted out";
+    case CGB_CAUSE_CARRIED: return "carried";
+    default: return "no cause of this library";
+    }
+}
+
 /* A number of that many bytes, of any record here. */
 static inline uint64_t cgb_number(const uint8_t *bytes, size_t at, size_t size)
 {
@@ -286,6 +309,10 @@ static inline uint8_t cgb_pair_byte(const uint8_t answer[CGB_ANSWER_BYTES], size
 {
     return answer[CGB_ANSWER_PAIR_BYTES + k];
 }
+static inline uint8_t cgb_pair_cause(const uint8_t answer[CGB_ANSWER_BYTES], size_t k)
+{
+    return answer[CGB_ANSWER_PAIR_CAUSES + k];
+}
 
 /* The byte that an object DMA M-cycle moved; 0 where it moved none. */
 static inline uint8_t cgb_cycle_byte(const uint8_t answer[CGB_ANSWER_BYTES])
@@ -293,7 +320,7 @@ static inline uint8_t cgb_cycle_byte(const uint8_t answer[CGB_ANSWER_BYTES])
     return answer[CGB_ANSWER_PAIR_BYTES];
 }
 
-/* Of a next pair or an escape drain: whether it hands out a pair, and that pair; no byte is moved. */
+/* Of a next pair or an escape drain: whether it hands out a pair, that pair, and its cause; no byte is moved. */
 static inline uint16_t cgb_handed(const uint8_t answer[CGB_ANSWER_BYTES])
 {
     return cgb_value(answer, 0);
@@ -305,6 +332,10 @@ static inline uint16_t cgb_handed_source(const uint8_t answer[CGB_ANSWER_BYTES])
 static inline uint16_t cgb_handed_destination(const uint8_t answer[CGB_ANSWER_BYTES])
 {
     return cgb_value(answer, 2);
+}
+static inline uint8_t cgb_handed_cause(const uint8_t answer[CGB_ANSWER_BYTES])
+{
+    return (uint8_t)cgb_value(answer, 3);
 }
 
 /* ---- The state's 248 bytes: where each field begins (docs/STATE-LAYOUT.md says its size, its values and what it is for) ---- */
@@ -520,7 +551,7 @@ static inline uint8_t cgb_wake_intake(uint8_t state[CGB_STATE_BYTES], uint8_t an
 /* The calls without inputs, the queries among them; behind -> the values of the answer. */
 
 /* calls.txt: begin calls; written by tools/calls */
-/* next pair -> 1, source, destination; or 0 for none */
+/* next pair -> 1, source, destination, cause: 0 going on, 1 counted out, 2 carried; or 0 for none */
 static inline uint8_t cgb_next_pair(uint8_t state[CGB_STATE_BYTES], uint8_t answer[CGB_ANSWER_BYTES])
 {
     return cgb_alone(state, answer, CGB_KIND_NEXT_PAIR, 0, 0, 0, 0);
@@ -530,7 +561,7 @@ static inline uint8_t cgb_lcd_off(uint8_t state[CGB_STATE_BYTES], uint8_t answer
 {
     return cgb_alone(state, answer, CGB_KIND_LCD_OFF, 0, 0, 0, 0);
 }
-/* escape drain -> 1, source, destination; or 0 for none */
+/* escape drain -> 1, source, destination, cause: 0 going on, 1 counted out, 2 carried; or 0 for none */
 static inline uint8_t cgb_escape_drain(uint8_t state[CGB_STATE_BYTES], uint8_t answer[CGB_ANSWER_BYTES])
 {
     return cgb_alone(state, answer, CGB_KIND_ESCAPE_DRAIN, 0, 0, 0, 0);

@@ -1,6 +1,6 @@
-/* Document 01's cases K1 to K10 by its numbers, object DMA by the sentences of document 02's A1, each refusal once, and every other
- * call once, through the functions of include/cgb_vram_dma.h: what the header holds of the layouts must be the library's. C99, and
- * C++17 as it stands; tools/examples builds and runs it both ways. */
+/* Document 01's cases K1 to K10 by its numbers, object DMA by the sentences of document 02's A1, a pair's cause by A3's, each refusal
+ * once, and every other call once, through the functions of include/cgb_vram_dma.h: what the header holds of the layouts must be the
+ * library's. C99, and C++17 as it stands; tools/examples builds and runs it both ways. */
 #include "cgb_vram_dma.h"
 
 #include <stdio.h>
@@ -1026,8 +1026,251 @@ static void refusals(void)
     object_dma_of_no_run(1);
 }
 
+/* ---- A pair's cause: document 02's A3 ---- */
+
+/* "Bus call, escape drain and replay pass it on": the ways to a pair. A drain brings a free pair alone. */
+enum { BY_NEXT_PAIR, BY_BUS, BY_BUS_INSIDE, BY_DRAIN, WAYS };
+
+/* An accepted call's answer has 0 where no value, pair, byte or cause stands. */
+static void rest_is_zero(size_t values, size_t pairs, int line)
+{
+    size_t k;
+    for (k = 1; k < CGB_ANSWER_BYTES; k++) {
+        if (k >= CGB_ANSWER_VALUES && k < CGB_ANSWER_VALUES + 2 * values)
+            continue;
+        if (k >= CGB_ANSWER_PAIRS && k < CGB_ANSWER_PAIRS + 4 * pairs)
+            continue;
+        if (k >= CGB_ANSWER_PAIR_BYTES && k < CGB_ANSWER_PAIR_BYTES + pairs)
+            continue;
+        if (k >= CGB_ANSWER_PAIR_CAUSES && k < CGB_ANSWER_PAIR_CAUSES + pairs)
+            continue;
+        equal(answer[k], 0, "a byte of the answer that nothing stands in", line);
+    }
+}
+
+/* A next pair or a drain: whether a pair came, and its cause. */
+static unsigned handed(unsigned way, unsigned *cause, int line)
+{
+    memset(answer, 0xFF, sizeof answer);
+    equal(way == BY_DRAIN ? cgb_escape_drain(b.state, answer) : cgb_next_pair(b.state, answer), CGB_ACCEPTED, "the call", line);
+    *cause = cgb_handed_cause(answer);
+    equal(cgb_value(answer, 3), *cause, "the fourth value", line);
+    rest_is_zero(cgb_handed(answer) ? 4 : 0, 0, line);
+    return cgb_handed(answer);
+}
+
+/* What comes of the last fall's quota: so many pairs, the first and the second of this cause. */
+static void come(unsigned way, unsigned pairs, unsigned first, unsigned second, int line)
+{
+    unsigned cause = 0;
+    memset(answer, 0xFF, sizeof answer);
+    if (way == BY_BUS || way == BY_BUS_INSIDE) {
+        equal(way == BY_BUS ? bus(CGB_HOLD, 0) : bus_inside(CGB_HOLD), pairs, "the pairs", line);
+        equal(cgb_pair_cause(answer, 0), first, "the first pair's cause", line);
+        equal(cgb_pair_cause(answer, 1), second, "the second pair's cause", line);
+        equal(answer[20], first, "byte 20", line);
+        equal(answer[21], second, "byte 21", line);
+        rest_is_zero(2, pairs, line);
+        return;
+    }
+    equal(handed(way, &cause, line), pairs > 0, "a first pair", line);
+    equal(cause, first, "the first pair's cause", line);
+    if (pairs == 0)
+        return;
+    equal(handed(way, &cause, line), pairs > 1, "a second pair", line);
+    equal(cause, second, "the second pair's cause", line);
+}
+#define COME(way, pairs, first, second) come(way, pairs, first, second, __LINE__)
+
+/* FF53 and FF54, then FF55. */
+static void to(uint16_t destination, uint8_t ff55)
+{
+    power_on(0);
+    set(0xFF53, (uint8_t)(destination / 256));
+    set(0xFF54, (uint8_t)(destination % 256));
+    set(0xFF55, ff55);
+}
+
+/* So many falls with one next pair each, all going on. */
+static void one_by_one(uint8_t mode, unsigned pairs)
+{
+    unsigned cause = 0;
+    for (; pairs > 0; pairs--) {
+        fall(mode);
+        EQUAL(handed(BY_NEXT_PAIR, &cause, __LINE__), 1);
+        EQUAL(cause, CGB_CAUSE_GOING_ON);
+    }
+}
+
+/* So many rounds of two pairs, of which the last one has this cause; then none comes. */
+static void rounds_to(unsigned way, unsigned rounds, unsigned last)
+{
+    unsigned round;
+    for (round = 1; round <= rounds; round++) {
+        fall(3);
+        COME(way, 2, CGB_CAUSE_GOING_ON, round < rounds ? (unsigned)CGB_CAUSE_GOING_ON : last);
+    }
+    EQUAL(left(), 0);
+    fall(3);
+    COME(way, 0, 0, 0);
+}
+
+/* K6: the cut behind so many pairs of the first block, and a fall. */
+static void cut_behind(unsigned pairs)
+{
+    falls_to_a_ready_block();
+    EQUAL(bus_inside(CGB_HOLD), 0);
+    EQUAL(cgb_value(answer, CGB_BUS_SET_UP_CELL), 1);
+    rest_is_zero(2, 0, __LINE__);
+    one_by_one(0, pairs);
+    EQUAL(speed_switch(CGB_NO_PHASE, 0, 0), CGB_SWITCH_CUT);
+    fall(0);
+}
+
+static unsigned destination_register(void)
+{
+    ACCEPTED(cgb_tally(b.state, answer));
+    return cgb_value(answer, CGB_TALLY_DESTINATION);
+}
+
+/* "one of going on, counted out (left fell to 0), or carried (past FFFFh), this also where left would have reached 0 anyway". */
+static void causes_of_a_run(unsigned way)
+{
+    to(0, 0x00); /* K1: 16 pairs */
+    rounds_to(way, 8, CGB_CAUSE_COUNTED_OUT);
+    to(0x9FF0, 0x01); /* K5: 32 pairs, the 17th to 8000h: no carry */
+    rounds_to(way, 16, CGB_CAUSE_COUNTED_OUT);
+    to(0xFFF0, 0x01); /* K4: 16 pairs, cut off 16 */
+    rounds_to(way, 8, CGB_CAUSE_CARRIED);
+    to(0xFFF0, 0x01);
+    one_by_one(3, 15);
+    EQUAL(left(), 17);
+    EQUAL(destination_register(), 0xFFFF);
+    fall(3);
+    COME(way, 1, CGB_CAUSE_CARRIED, 0);
+    EQUAL(left(), 0);
+    EQUAL(destination_register(), 0);
+    to(0xFFF0, 0x00); /* both: left 1 at FFFFh */
+    rounds_to(way, 8, CGB_CAUSE_CARRIED);
+    to(0xFFF0, 0x00);
+    one_by_one(3, 15);
+    EQUAL(left(), 1);
+    fall(3);
+    COME(way, 1, CGB_CAUSE_CARRIED, 0);
+    to(0, 0x00); /* left 1 under a quota of 2 */
+    one_by_one(3, 15);
+    fall(3);
+    EQUAL(b.state[CGB_AT_CURSOR_QUOTA], 2);
+    COME(way, 1, CGB_CAUSE_COUNTED_OUT, 0);
+}
+
+/* A pair of a call at double speed. */
+static void causes_at_double_speed(unsigned way, uint16_t destination, unsigned last)
+{
+    unsigned k;
+    to(destination, 0x00);
+    EQUAL(speed_switch(CGB_NO_PHASE, 0, 0), CGB_SWITCH_NONE);
+    for (k = 1; k <= 16; k++) {
+        fall(3);
+        COME(way, 1, k < 16 ? (unsigned)CGB_CAUSE_GOING_ON : last, 0);
+    }
+}
+
+/* K2 with 81: a block's last pair is not the run's. */
+static void causes_of_blocks(unsigned way)
+{
+    to(0, 0x81);
+    falls_to_a_ready_block();
+    EQUAL(bus(CGB_HOLD, 0), 0);
+    rest_is_zero(2, 0, __LINE__);
+    one_by_one(0, 14);
+    fall(0);
+    COME(way, 2, CGB_CAUSE_GOING_ON, CGB_CAUSE_GOING_ON);
+    EQUAL(b.state[CGB_AT_BLOCK_REMAINING], 0);
+    EQUAL(left(), 16);
+    falls_to_a_ready_block();
+    EQUAL(bus(CGB_HOLD, 0), 0);
+    one_by_one(0, 14);
+    fall(0);
+    COME(way, 2, CGB_CAUSE_GOING_ON, CGB_CAUSE_COUNTED_OUT);
+    fall(0);
+    COME(way, 0, 0, 0);
+}
+
+/* A free pair takes nothing from left: it goes on, K6's and at left 1 too, unless it carries. */
+static void causes_of_free_pairs(unsigned way)
+{
+    to(0, 0x81);
+    cut_behind(2);
+    COME(way, 1, CGB_CAUSE_GOING_ON, 0);
+    EQUAL(left(), 30);
+    to(0, 0x80);
+    cut_behind(15);
+    EQUAL(left(), 1);
+    COME(way, 1, CGB_CAUSE_GOING_ON, 0);
+    EQUAL(left(), 1);
+    to(0xFFF0, 0x81);
+    cut_behind(15);
+    EQUAL(left(), 17);
+    COME(way, 1, CGB_CAUSE_CARRIED, 0);
+    EQUAL(left(), 0);
+    to(0xFFF0, 0x80);
+    cut_behind(15);
+    EQUAL(left(), 1);
+    COME(way, 1, CGB_CAUSE_CARRIED, 0);
+    EQUAL(left(), 0);
+}
+
+/* Behind an answer that has causes: no pair without quota, hold or an escape; and a refused call's is the number and zeros. */
+static void no_cause(void)
+{
+    uint8_t last_two[CGB_STATE_BYTES];
+    to(0xFFF0, 0x00);
+    COME(BY_NEXT_PAIR, 0, 0, 0);
+    COME(BY_DRAIN, 0, 0, 0);
+    one_by_one(3, 14);
+    fall(3);
+    EQUAL(bus(0, 0), 0);
+    rest_is_zero(0, 0, __LINE__);
+    EQUAL(bus_inside(0), 0);
+    rest_is_zero(0, 0, __LINE__);
+    memcpy(last_two, b.state, sizeof last_two);
+    COME(BY_BUS, 2, CGB_CAUSE_GOING_ON, CGB_CAUSE_CARRIED);
+    REFUSED(call_with(CGB_KIND_BUS_CALL, 3, CGB_OAM_BYTES - 1), 2);
+    memcpy(b.state, last_two, sizeof last_two);
+    REFUSED(call_with(CGB_KIND_BUS_CALL, 0, 0), 2);
+    REFUSED(call_with(CGB_KIND_BUS_CALL_FROM_INSIDE, 2, CGB_VRAM_BYTES + 1), 2);
+    b.state[CGB_AT_CURSOR_QUOTA] = 3;
+    REFUSED(cgb_next_pair(b.state, answer), 7);
+    REFUSED(cgb_escape_drain(b.state, answer), 7);
+    memcpy(b.state, last_two, sizeof last_two);
+    COME(BY_NEXT_PAIR, 2, CGB_CAUSE_GOING_ON, CGB_CAUSE_CARRIED);
+}
+
+static void causes(void)
+{
+    unsigned way;
+    EQUAL(CGB_CAUSE_GOING_ON, 0);
+    EQUAL(CGB_CAUSE_COUNTED_OUT, 1);
+    EQUAL(CGB_CAUSE_CARRIED, 2);
+    for (way = 0; way < WAYS; way++) {
+        causes_of_free_pairs(way);
+        if (way == BY_DRAIN)
+            continue;
+        causes_of_a_run(way);
+        causes_at_double_speed(way, 0, CGB_CAUSE_COUNTED_OUT);
+        causes_at_double_speed(way, 0xFFF0, CGB_CAUSE_CARRIED);
+        causes_of_blocks(way);
+    }
+    no_cause();
+}
+
 static void texts(void)
 {
+    EQUAL(strcmp(cgb_cause_text(CGB_CAUSE_GOING_ON), "going on"), 0);
+    EQUAL(strcmp(cgb_cause_text(CGB_CAUSE_COUNTED_OUT), "counted out"), 0);
+    EQUAL(strcmp(cgb_cause_text(CGB_CAUSE_CARRIED), "carried"), 0);
+    EQUAL(strcmp(cgb_cause_text(3), "no cause of this library"), 0);
     EQUAL(strcmp(cgb_refusal_text(CGB_ACCEPTED), "accepted"), 0);
     EQUAL(strcmp(cgb_refusal_text(8), "no refusal of this library"), 0);
     EQUAL(strcmp(cgb_refusal_text(CGB_REFUSED_BLACKOUT), "a switch while the blackout runs"), 0);
@@ -1082,12 +1325,13 @@ int main(void)
     fields();
     object_dma();
     refusals();
+    causes();
     texts();
     empty_slices();
     if (failures != 0) {
         fprintf(stderr, "tests/cases.c: %u of %u comparisons failed\n", failures, comparisons);
         return 1;
     }
-    printf("K1 to K10, object DMA, every call and every refusal: %u comparisons\n", comparisons);
+    printf("K1 to K10, object DMA, causes, every call and every refusal: %u comparisons\n", comparisons);
     return 0;
 }

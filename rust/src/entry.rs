@@ -8,7 +8,7 @@ pub const STATE_BYTES: usize = 248;
 /// The length of a call's record: byte 0 is its kind ([`kind`](crate::kind)), behind it are the inputs.
 pub const CALL_BYTES: usize = 16;
 /// The length of an answer's record: byte 0 is the refusal or 0, bytes 2 to 9 are four values of two bytes, bytes 10 to
-/// 19 the pairs of a bus call; byte 18 is also the byte that an object DMA M-cycle moved.
+/// 19 the pairs of a bus call, bytes 20 and 21 their causes; byte 18 is also the byte that an object DMA M-cycle moved.
 pub const ANSWER_BYTES: usize = 24;
 
 /// The length of the cartridge's slice: addresses below 8000h, then A000h to BFFFh from index 8000h on.

@@ -9,7 +9,8 @@ pub const WRITE: u8 = 1;
 /// OAM DMA owns a bus; 8-15 master edge. Values: committed, standing.
 pub const FALL: u8 = 2;
 
-/// Next pair (`next_byte`). No inputs. Values: 1, source, destination; or 0 for none.
+/// Next pair (`next_byte`). No inputs. Values: 1, source, destination, cause: 0 going on, 1 counted out, 2 carried;
+/// or 0 for none.
 pub const NEXT_PAIR: u8 = 3;
 
 /// Speed switch (`attempt_speed_switch`). Inputs by byte: 4 dot phase 0-3, or 4 for none; 5 bits 0-1 hold, interrupt
@@ -19,7 +20,8 @@ pub const SPEED_SWITCH: u8 = 4;
 /// LCD off (`vram_dma_lcd_disabled`). No inputs. Values: none.
 pub const LCD_OFF: u8 = 5;
 
-/// Escape drain (`vram_dma_drain_escape`). No inputs. Values: 1, source, destination; or 0 for none.
+/// Escape drain (`vram_dma_drain_escape`). No inputs. Values: 1, source, destination, cause: 0 going on, 1 counted
+/// out, 2 carried; or 0 for none.
 pub const ESCAPE_DRAIN: u8 = 6;
 
 /// Blackout drain (`drain_speed_switch_blackout`). Inputs by byte: 8-11 elapsed edges. Values: a flag.
@@ -29,7 +31,7 @@ pub const BLACKOUT_DRAIN: u8 = 7;
 pub const READ: u8 = 8;
 
 /// Bus call (`vram_dma_commit_bytes`). Inputs by byte: 5 bits 0-1 hold, suspended; 8-15 OAM DMA's start edge. Values:
-/// how many pairs, set-up cell used.
+/// how many pairs, set-up cell used; the pairs' causes in bytes 20 and 21.
 pub const BUS_CALL: u8 = 9;
 
 /// Arbitration (`vram_dma_arbitrate_oam`). Inputs by byte: 5 bits 0-2 hold, suspended, OAM DMA transfers. Values: 0
@@ -96,7 +98,7 @@ pub const OBJECT_DMA_M_CYCLE: u8 = 27;
 pub const ARBITRATION_FROM_INSIDE: u8 = 28;
 
 /// Bus call from inside (`vram_dma_commit_bytes_inside`). Inputs by byte: 5 bits 0-1 hold, suspended. Values: how
-/// many pairs, set-up cell used.
+/// many pairs, set-up cell used; the pairs' causes in bytes 20 and 21.
 pub const BUS_CALL_FROM_INSIDE: u8 = 29;
 
 /// Object DMA (`object_dma`). No inputs. Values: runs, bytes counted, page.

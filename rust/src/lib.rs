@@ -53,7 +53,7 @@ mod record;
 mod refusal;
 pub mod state;
 
-pub use answers::{Arbitration, Claim, CutOutcome, Cycle, Moved, ObjectDma, Pair, Status, Tally};
+pub use answers::{Arbitration, Cause, Claim, CutOutcome, Cycle, Moved, ObjectDma, Pair, Status, Tally};
 pub use entry::{CARTRIDGE_BYTES, Memory, OAM_BYTES, VRAM_BYTES, WRAM_BYTES};
 pub use inputs::{Fall, SwitchInputs};
 pub use print::Changes;
@@ -187,7 +187,8 @@ impl Cgb {
 
     /// The next pair, if quota is left and the engine moves: a General transfer, or a latched block that is ready, with
     /// bytes left in the transfer. Else none, and nothing changes. The byte itself is the caller's to move; the bus
-    /// call moves it in lent memory. A set-up cell is neither looked at nor taken: only a held bus call takes it.
+    /// call moves it in lent memory. A set-up cell is neither looked at nor taken: only a held bus call takes it. The
+    /// pair's [`Cause`] says whether it was the run's last.
     pub fn next_byte(&mut self) -> Result<Option<Pair>, Refusal> {
         Ok(self.alone(Record::of(kind::NEXT_PAIR))?.handed())
     }
@@ -213,7 +214,7 @@ impl Cgb {
 
     /// The byte that a cut owes: one pair, if an escape is owed and the engine moves, whatever quota stood; no quota is
     /// left after it. Else none, and nothing changes. The byte itself is the caller's to move. A set-up cell is neither
-    /// looked at nor taken.
+    /// looked at nor taken. Its cause is going on, unless it carries: nothing is taken from what is left.
     pub fn vram_dma_drain_escape(&mut self) -> Result<Option<Pair>, Refusal> {
         Ok(self.alone(Record::of(kind::ESCAPE_DRAIN))?.handed())
     }
@@ -226,10 +227,10 @@ impl Cgb {
 
     /// The bus call. With neither `hold` (the CPU is held) nor `suspended` (the bus is suspended) it does nothing. Else
     /// a set-up cell, if one stands, uses up the call; or pairs are moved until none comes, at most what is left of the
-    /// last fall's quota: two bytes where that fall was at single speed, one at double. Where the last arbitration
-    /// answered [`Arbitration::Contended`], one of the bytes goes to OAM as well, at FE00h + the low byte of its
-    /// source, up to FE9Fh; `oam_edge`, the master edge at which OAM DMA started, decides which, and counts for nothing
-    /// else.
+    /// last fall's quota: two bytes where that fall was at single speed, one at double; each pair has its own [`Cause`].
+    /// Where the last arbitration answered [`Arbitration::Contended`], one of the bytes goes to OAM as well, at FE00h +
+    /// the low byte of its source, up to FE9Fh; `oam_edge`, the master edge at which OAM DMA started, decides which, and
+    /// counts for nothing else.
     ///
     /// Refusal: 2 for any of the four lengths, held or not.
     pub fn vram_dma_commit_bytes(

@@ -1,5 +1,5 @@
 //! A call's record and an answer's (include/cgb_vram_dma.h), put together and taken apart.
-use crate::answers::{Arbitration, Claim, CutOutcome, Cycle, Moved, ObjectDma, Pair, Status, Tally};
+use crate::answers::{Arbitration, Cause, Claim, CutOutcome, Cycle, Moved, ObjectDma, Pair, Status, Tally};
 use crate::entry::{ANSWER_BYTES, CALL_BYTES};
 
 pub(crate) struct Record([u8; CALL_BYTES]);
@@ -68,8 +68,15 @@ impl Answer {
     pub fn claim(&self) -> Claim {
         Claim { committed: self.flag(0), standing: self.flag(1) }
     }
+    fn cause(&self, at: usize) -> Cause {
+        match self.0[at] {
+            0 => Cause::GoingOn,
+            1 => Cause::CountedOut,
+            _ => Cause::Carried,
+        }
+    }
     pub fn handed(&self) -> Option<Pair> {
-        self.flag(0).then(|| Pair { source: self.word(1), destination: self.word(2) })
+        self.flag(0).then(|| Pair { source: self.word(1), destination: self.word(2), cause: self.cause(8) })
     }
     pub fn conflict(&self) -> Option<u16> {
         self.flag(0).then(|| self.word(1))
@@ -116,7 +123,7 @@ impl Answer {
     pub fn moved(&self) -> Moved {
         let pair = |k: usize| {
             let at = 10 + 4 * k;
-            let pair = Pair { source: self.at(at), destination: self.at(at + 2) };
+            let pair = Pair { source: self.at(at), destination: self.at(at + 2), cause: self.cause(20 + k) };
             (k < self.word(0).into()).then_some((pair, self.0[18 + k]))
         };
         Moved { pairs: [pair(0), pair(1)], set_up_cell: self.flag(1) }

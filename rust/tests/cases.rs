@@ -66,8 +66,8 @@ fn k1_general() {
     b.write(0xFF55, 0x00);
     assert_eq!(b.cgb.vram_dma_status(), Ok(Status::General { left: 16 }));
     assert_eq!(b.cgb.vram_dma_holds_cpu(), Ok(true));
-    let expected: Vec<Pair> = (0..16).map(|i| Pair { source: i, destination: 0x8000 + i }).collect();
-    assert_eq!(b.run(), expected);
+    let pairs: Vec<(u16, u16)> = b.run().into_iter().map(|pair| (pair.source, pair.destination)).collect();
+    assert_eq!(pairs, (0..16).map(|i| (i, 0x8000 + i)).collect::<Vec<(u16, u16)>>());
     assert_eq!(b.ff55(), 0xFF);
     assert_eq!(b.vram[..16], b.cartridge[..16]);
 }

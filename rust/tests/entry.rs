@@ -1,6 +1,6 @@
 //! The exported entry as a C program calls it, with the bytes of include/cgb_vram_dma.h: what the typed wrapper cannot ask. A
 //! refused call leaves the paper's number and zeros in the answer, over whatever stood there, and all else as given.
-use cgb_vram_dma::{CARTRIDGE_BYTES, Cgb, Memory, OAM_BYTES, VRAM_BYTES, WRAM_BYTES};
+use cgb_vram_dma::{CARTRIDGE_BYTES, Cause, Cgb, Memory, OAM_BYTES, VRAM_BYTES, WRAM_BYTES};
 use cgb_vram_dma::{entry, kind as kinds};
 
 #[derive(Clone, PartialEq)]
@@ -118,6 +118,82 @@ fn an_m_cycle_s_answer() {
     }
 }
 
+/// The bytes of a next pair's or an escape drain's answer: 1, source, destination, cause.
+fn handed(source: u16, destination: u16, cause: u8) -> [u8; 24] {
+    let mut answer = [0; 24];
+    answer[2] = 1;
+    answer[4..6].copy_from_slice(&source.to_le_bytes());
+    answer[6..8].copy_from_slice(&destination.to_le_bytes());
+    answer[8] = cause;
+    answer
+}
+
+/// Document 02's A3 by bytes: K1's last two pairs, "counted out (left fell to 0)", and K4's, "carried (past FFFFh)". A bus call of either form
+/// has the first pair's cause in byte 20, the second's in 21; a next pair in 8 and 9. Bytes 1, 22 and 23 stay 0.
+#[test]
+fn the_causes_of_two_pairs() {
+    for (destination, address, cause) in [(0x00_u8, 0x8000_u16, 1), (0xFF, 0x9FF0, 2)] {
+        let mut caller = Caller::new();
+        let mut answer = [0xFF; 24];
+        for (register, value) in [(0xFF53, destination), (0xFF54, destination & 0xF0), (0xFF55, 0x00)] {
+            assert_eq!(caller.perform(call(kinds::WRITE, register, value, 1), &mut answer), 0);
+        }
+        for _ in 0..14 {
+            assert_eq!(caller.perform(call(kinds::FALL, 0, 3, 0), &mut answer), 0);
+            assert_eq!(caller.perform(kind(kinds::NEXT_PAIR), &mut answer), 0);
+        }
+        assert_eq!(caller.perform(call(kinds::FALL, 0, 3, 0), &mut answer), 0);
+        for form in [kinds::BUS_CALL, kinds::BUS_CALL_FROM_INSIDE] {
+            let mut expected = [0; 24];
+            expected[2] = 2;
+            for (k, at) in [(14_u16, 10), (15, 14)] {
+                expected[at..at + 2].copy_from_slice(&k.to_le_bytes());
+                expected[at + 2..at + 4].copy_from_slice(&(address + k).to_le_bytes());
+            }
+            expected[18..20].copy_from_slice(&caller.cartridge[14..16]);
+            expected[21] = cause;
+            assert_eq!(caller.clone().perform(call(form, 0, 0, 1), &mut answer), 0);
+            assert_eq!(answer, expected, "{form}");
+            let mut short = caller.clone();
+            short.oam.pop();
+            short.refuses(call(form, 0, 0, 1), 2);
+        }
+        for expected in [handed(14, address + 14, 0), handed(15, address + 15, cause), [0; 24]] {
+            assert_eq!(caller.perform(kind(kinds::NEXT_PAIR), &mut answer), 0);
+            assert_eq!(answer, expected);
+        }
+    }
+}
+
+/// K6 with a destination of FFF0h, cut behind the block's 15th pair: the free pair goes past FFFFh. One that does not goes on.
+#[test]
+fn the_cause_of_a_free_pair() {
+    for (destination, expected) in [(0x00, handed(15, 0x800F, 0)), (0xFF, handed(15, 0x9FFF, 2))] {
+        let mut caller = Caller::new();
+        let mut answer = [0xFF; 24];
+        for (register, value) in [(0xFF53, destination), (0xFF54, destination & 0xF0), (0xFF55, 0x81)] {
+            assert_eq!(caller.perform(call(kinds::WRITE, register, value, 1), &mut answer), 0);
+        }
+        for mode in [3, 0, 0] {
+            assert_eq!(caller.perform(call(kinds::FALL, 0, mode, 0), &mut answer), 0);
+        }
+        for _ in 0..15 {
+            assert_eq!(caller.perform(call(kinds::FALL, 0, 0, 0), &mut answer), 0);
+            assert_eq!(caller.perform(kind(kinds::NEXT_PAIR), &mut answer), 0);
+        }
+        assert_eq!(caller.perform(call(kinds::WRITE, 0xFF4D, 1, 1), &mut answer), 0);
+        assert_eq!(caller.perform(call(kinds::SPEED_SWITCH, 0, 4, 0), &mut answer), 0);
+        assert_eq!(answer[2], 2, "cut");
+        assert_eq!(caller.perform(call(kinds::FALL, 0, 0, 0), &mut answer), 0);
+        assert_eq!(caller.clone().perform(kind(kinds::NEXT_PAIR), &mut answer), 0);
+        assert_eq!(answer, expected);
+        assert_eq!(caller.perform(kind(kinds::ESCAPE_DRAIN), &mut answer), 0);
+        assert_eq!(answer, expected);
+        assert_eq!(caller.perform(kind(kinds::ESCAPE_DRAIN), &mut answer), 0);
+        assert_eq!(answer, [0; 24]);
+    }
+}
+
 #[test]
 fn bytes_that_no_state_has_get_7_before_6() {
     for mut caller in damaged() {
@@ -182,5 +258,17 @@ fn the_header_has_the_same_sizes() {
     ];
     for (name, bytes) in sizes {
         assert_eq!(size(name), Some(bytes), "{name}");
+    }
+}
+
+/// So are its causes, by number and in words.
+#[test]
+fn the_header_has_the_same_causes() {
+    let header = include_str!("../../include/cgb_vram_dma.h");
+    for (name, cause) in [("GOING_ON", Cause::GoingOn), ("COUNTED_OUT", Cause::CountedOut), ("CARRIED", Cause::Carried)]
+    {
+        let declared = format!("    CGB_CAUSE_{name} = {}", cause as u8);
+        assert_eq!(header.lines().filter(|line| line.starts_with(&declared)).count(), 1, "{declared}");
+        assert!(header.contains(&format!("    case CGB_CAUSE_{name}: return \"{cause}\";\n")), "{cause}");
     }
 }

@@ -1,7 +1,7 @@
 //! The state's fields, as the wrapper reads and prints them, held to docs/STATE-LAYOUT.md and to what the library makes
 //! of the same bytes.
 use cgb_vram_dma::state::TransferMode;
-use cgb_vram_dma::{Cgb, Memory, ObjectDma, Status, entry};
+use cgb_vram_dma::{Cgb, Memory, Status, entry};
 
 const LAYOUT: &str = include_str!("../../docs/STATE-LAYOUT.md");
 
@@ -167,8 +167,8 @@ fn the_fields_are_what_the_library_answers() {
         assert_eq!(cgb.svbk_register(), Ok(state.svbk));
         // "from the write until 160 are counted"
         let runs = state.object_dma.running && state.object_dma.counted < 160;
-        let object_dma = ObjectDma { runs, counted: state.object_dma.counted, page: state.object_dma.page };
-        assert_eq!(cgb.object_dma(), Ok(object_dma));
+        let said = cgb.object_dma().map(|dma| (dma.runs, dma.counted, dma.page));
+        assert_eq!(said, Ok((runs, state.object_dma.counted, state.object_dma.page)));
     }
     assert!(asked > 1_000);
 }

@@ -1,6 +1,6 @@
 //! Every method of the wrapper, and every input of it, by a sentence of document 01 in which it makes a difference: a bit
 //! or a value in a wrong place of a record shows here. The cases of the paper are in cases.rs, object DMA is in
-//! object_dma.rs.
+//! object_dma.rs, a pair's cause in causes.rs.
 use cgb_vram_dma::{
     Arbitration, CARTRIDGE_BYTES, Cgb, CutOutcome, Fall, Memory, Moved, OAM_BYTES, Pair, SwitchInputs, VRAM_BYTES,
     WRAM_BYTES,
@@ -53,13 +53,16 @@ fn doubled(ff55: u8, modes: &[u8]) -> Cgb {
     cgb
 }
 
+fn addresses(pair: Pair) -> (u16, u16) {
+    (pair.source, pair.destination)
+}
+
 /// The paper's replay: "write FF55 = 00 with LCD on, fall mode 3, three next pairs".
 #[test]
 fn next_pairs() {
     let mut cgb = after(0x00, &[3]);
-    let pairs: Vec<Option<Pair>> = (0..3).map(|_| cgb.next_byte().unwrap()).collect();
-    let pair = |k| Some(Pair { source: k, destination: 0x8000 + k });
-    assert_eq!(pairs, [pair(0), pair(1), None]);
+    let pairs: Vec<Option<(u16, u16)>> = (0..3).map(|_| cgb.next_byte().unwrap().map(addresses)).collect();
+    assert_eq!(pairs, [Some((0, 0x8000)), Some((1, 0x8001)), None]);
     assert_eq!(cgb.tally().unwrap().left, 14);
 }
 
@@ -146,7 +149,7 @@ fn the_escape() {
     assert_eq!(switch(&mut cgb, SwitchInputs::default()), CutOutcome::Cut);
     falls(&mut cgb, &[3]);
     assert_eq!(cgb.vram_dma_arbitrate_oam(true, false, true), Ok(Arbitration::Stall));
-    assert_eq!(cgb.vram_dma_drain_escape(), Ok(Some(Pair { source: 2, destination: 0x8002 })));
+    assert_eq!(cgb.vram_dma_drain_escape().map(|pair| pair.map(addresses)), Ok(Some((2, 0x8002))));
     let tally = cgb.tally().unwrap();
     assert_eq!((tally.left, tally.escape_owed, cgb.state().vram_dma.cursor.quota), (30, false, 0));
     // A block that is not ready is discarded.
