@@ -66,9 +66,12 @@ fn arb_after(a: HaltArbiter, last: bool, ended: bool) -> HaltArbiter
     let granted = less_one_if(last, a.granted_ahead);
     let park = a.park_waits_for_fetch & !last;
     let claim = a.idle_claim & !ended;
-    let unparked = rebuild::with_arb_park_waits_for_fetch(a, park);
-    let unclaimed = rebuild::with_arb_idle_claim(unparked, claim);
-    rebuild::with_arb_granted_ahead(unclaimed, granted)
+    // In place, where other parts are made anew: so the pair's function stays small enough that the compiler lays it into its callers.
+    let mut after = a;
+    after.park_waits_for_fetch = park;
+    after.idle_claim = claim;
+    after.granted_ahead = granted;
+    after
 }
 
 pub fn advance(d: VramDma) -> VramDma

@@ -13,6 +13,7 @@ use Rattle.transfer.specs.declared.VramDmaStatus.{VramDmaStatus}
 use Rattle.transfer.specs.declared.VramDmaStatus.the-variants as dma
 use Rattle.transfer.specs.declared.pair.Cause.{Cause}
 use Rattle.transfer.specs.declared.pair.Cause.the-variants.{GoingOn, CountedOut, Carried}
+use Rattle.transfer.specs.declared.pair.Causes.{Causes}
 use Rattle.answers.specs.declared.ByteAnswer.{ByteAnswer}
 use Rattle.answers.specs.declared.ByteAnswer.the-variants as byte
 use Rattle.answers.specs.declared.DoneAnswer.{DoneAnswer}
@@ -108,6 +109,14 @@ abbrev pub causeNumber : Cause → ℕ
 causeNumber GoingOn = 0
 causeNumber CountedOut = 1
 causeNumber Carried = 2
+
+abbrev pub causeNumbers : List Cause → List ℕ
+causeNumbers [] = []
+causeNumbers (k ∷ ks) = causeNumber k ∷ causeNumbers ks
+
+-- those of a bus call's two places
+abbrev pub causesSay : Causes → List ℕ
+causesSay c = causeNumber (c .first) ∷ causeNumber (c .second) ∷ []
 
 -- 0 for none; else 1, the source, the destination and the cause
 abbrev pub pairSays : PairAnswer → Said

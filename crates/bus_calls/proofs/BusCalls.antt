@@ -7,16 +7,16 @@ use lib.Dec.{eqb}
 use Rattle.console.specs.Reached.{unreached}
 use Rattle.console.specs.Set.{withVramDma}
 use Rattle.console.specs.declared.Cgb.{Cgb}
-use Rattle.bus.specs.Commit.{bytesOf, runOf, Committed}
+use Rattle.bus.specs.Commit.{bytesOf, firstTwo, runOf, Committed}
 use Rattle.bus.specs.declared.commit.BusInput.{BusInput}
 use Rattle.bus.specs.declared.commit.Run.{Run}
 use Rattle.memory.specs.Lengths.{wrongLengths}
 use Rattle.bus_calls.specs.BusCall.{Lengths, lengthsOf, busRefusal, banksOf, refusedBus, AnswersBus}
 use Rattle.bus_calls.specs.BusCall.{busPairs, busCauses, busAnswer, busState, busSaid, busBytes, busVram, busOam, busOf}
-use Rattle.answers.specs.Answers.{busOutcomeSays}
+use Rattle.answers.specs.Answers.{causeNumbers, causesSay, busOutcomeSays}
 use Rattle.answers.specs.declared.BusAnswer.the-variants.{Moved}
 use Rattle.answers.specs.declared.BusOutcome.{BusOutcome}
-use Rattle.bus_calls.proofs.Says.{bus-told}
+use Rattle.bus_calls.proofs.Says.{bus-told, causes-told}
 
 module _ (s : Cgb) (n : Lengths) where
   pub refused-7 : unreached s ≡ true → busRefusal s n ≡ 7
@@ -41,13 +41,24 @@ module _ (s : Cgb) (i : BusInput) (cartridge wram vram oam : List ℕ) where
       (r : BusOutcome) → r ≡ busOf s i cartridge wram vram oam → busOutcomeSays r ≡ busSaid s i (lengthsOf cartridge wram vram oam)
   says r is = ap busOutcomeSays is ∙ bus-told s i cartridge wram vram oam
 
+  says-causes :
+      (r : BusOutcome) → r ≡ busOf s i cartridge wram vram oam →
+      causesSay (r .causes) ≡ firstTwo 0 (causeNumbers (busCauses s i (lengthsOf cartridge wram vram oam)))
+  says-causes r is = ap (λ (x : BusOutcome). causesSay (x .causes)) is ∙ causes-told s i cartridge wram vram oam
+
   pub bus-declined :
       (r : BusOutcome) (k : ℕ) → busRefusal s (lengthsOf cartridge wram vram oam) ≡ k → eqb k 0 ≡ false → r ≡ refusedBus k s →
       AnswersBus s i cartridge wram vram oam r vram oam
   unfolding busOf busPairs busCauses busAnswer busState busBytes busVram busOam bytesOf
   bus-declined r k refused some is =
       let result : r ≡ busOf s i cartridge wram vram oam = is ∙ rw (refused, some) in
-      record { result = result; says = says r result; stored = rw (refused, some); deposit = rw (refused, some) }
+      record {
+        result = result;
+        says = says r result;
+        says-causes = says-causes r result;
+        stored = rw (refused, some);
+        deposit = rw (refused, some);
+      }
 
   pub bus-moved :
       (run : Run) (lastVram lastOam : List ℕ) → busRefusal s (lengthsOf cartridge wram vram oam) ≡ 0 →
@@ -56,4 +67,10 @@ module _ (s : Cgb) (i : BusInput) (cartridge wram vram oam : List ℕ) where
   unfolding busOf busPairs busCauses busAnswer busState busBytes busVram busOam runOf
   bus-moved run lastVram lastOam zero c =
       let result : movedOf s run ≡ busOf s i cartridge wram vram oam = ap (movedOf s) (c .result) ∙ rw zero in
-      record { result = result; says = says _ result; stored = c .stored ∙ rw zero; deposit = c .deposit ∙ rw zero }
+      record {
+        result = result;
+        says = says _ result;
+        says-causes = says-causes _ result;
+        stored = c .stored ∙ rw zero;
+        deposit = c .deposit ∙ rw zero;
+      }

@@ -2,4 +2,4 @@ pub mod Says
 pub mod BusCalls
 pub mod SharedBusSteps
 pub mod BusCallSteps
-pub mod BusCauses
+pub mod BusCauseSteps

@@ -1,23 +1,26 @@
 -- What arbitration, the write conflict and the bus call say. Assumes nothing.
 use Prim.Native.Nat.{ℕ}
 use mathlib.Core.Path.{_≡_, refl}
-use mathlib.Core.List.{List}
+use mathlib.Core.List.{List, [], _∷_}
 use lib.ListN.{length}
 use Rattle.console.specs.declared.Cgb.{Cgb}
 use Rattle.bus.specs.declared.arbitration.Arbitration.{Arbitration}
 use Rattle.bus.specs.declared.arbitration.Arbitration.the-variants as bus
 use Rattle.bus.specs.declared.arbitration.ArbitrationInput.{ArbitrationInput}
+use Rattle.bus.specs.Commit.{firstTwo, firstCauses}
 use Rattle.bus.specs.declared.commit.BusInput.{BusInput}
 use Rattle.transfer.specs.Conflict.{conflictOf}
 use Rattle.transfer.specs.declared.Conflict.{Conflict}
 use Rattle.transfer.specs.declared.Conflict.the-variants as found
-use Rattle.answers.specs.Answers.{accepted, stateRefusal, arbitrationSays, arbitratedSays, conflictSays, busSays, busOutcomeSays}
+use Rattle.transfer.specs.declared.pair.Cause.{Cause}
+use Rattle.answers.specs.Answers.{accepted, stateRefusal, arbitrationSays, arbitratedSays, conflictSays, causeNumbers, causesSay, busSays}
+use Rattle.answers.specs.Answers.{busOutcomeSays}
 use Rattle.answers.specs.declared.ArbitrationAnswer.the-variants as arbitration
 use Rattle.answers.specs.declared.BusAnswer.the-variants as moved
 use Rattle.answers.specs.declared.ConflictAnswer.the-variants as conflict
 use Rattle.answers.proofs.Numbers.{told}
 use Rattle.bus_calls.specs.Bus.{arbitrationAnswerOf, arbitrated, arbitrationCallOf, arbitrationSaid, conflictAnswerOf, conflictCallOf, conflictSaid}
-use Rattle.bus_calls.specs.BusCall.{lengthsOf, busRefusal, takenIn, busAnswer, busSaid, busOf}
+use Rattle.bus_calls.specs.BusCall.{lengthsOf, busRefusal, takenIn, busCauses, busAnswer, busSaid, busOf}
 
 -- what the parts below answer is accepted
 pub arbitration-said :
@@ -29,6 +32,12 @@ arbitration-said bus.Stall = refl
 pub conflict-said : (c : Conflict) → conflictSays (conflictAnswerOf c) ≡ accepted (conflictSays (conflictAnswerOf c) .values)
 conflict-said (found.Source source) = refl
 conflict-said found.None = refl
+
+-- two places by their numbers are two numbers
+numbers-of-two : (ks : List Cause) → causesSay (firstCauses ks) ≡ firstTwo 0 (causeNumbers ks)
+numbers-of-two [] = refl
+numbers-of-two (a ∷ []) = refl
+numbers-of-two (a ∷ b ∷ more) = refl
 
 module _ (s : Cgb) where
   pub arbitrate-told : (i : ArbitrationInput) → arbitratedSays (arbitrationCallOf s i) ≡ arbitrationSaid s i
@@ -51,3 +60,9 @@ module _ (s : Cgb) where
       let t = takenIn s i in
       told busSays moved.Refused (moved.Moved (length (t .pairs)) (t .setup)) _ (λ k. refl) refl
       (busRefusal s (lengthsOf cartridge wram vram oam))
+
+  pub causes-told :
+      (i : BusInput) (cartridge wram vram oam : List ℕ) →
+      causesSay (busOf s i cartridge wram vram oam .causes) ≡ firstTwo 0 (causeNumbers (busCauses s i (lengthsOf cartridge wram vram oam)))
+  unfolding busOf
+  causes-told i cartridge wram vram oam = numbers-of-two (busCauses s i (lengthsOf cartridge wram vram oam))

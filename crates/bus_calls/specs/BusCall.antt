@@ -17,7 +17,7 @@ use Rattle.bus.specs.declared.commit.Banks.{Banks}
 use Rattle.bus.specs.declared.commit.BusInput.{BusInput}
 use Rattle.transfer.specs.declared.pair.BytePair.{BytePair}
 use Rattle.transfer.specs.declared.pair.Cause.{Cause}
-use Rattle.answers.specs.Answers.{Said, saying, bitOf, kept, busOutcomeSays}
+use Rattle.answers.specs.Answers.{Said, saying, bitOf, kept, causeNumbers, causesSay, busOutcomeSays}
 use Rattle.answers.specs.declared.BusAnswer.{BusAnswer}
 use Rattle.answers.specs.declared.BusAnswer.the-variants.{Moved, Refused}
 use Rattle.answers.specs.declared.BusOutcome.{BusOutcome}
@@ -95,5 +95,7 @@ refusedBus number s =
 pub record AnswersBus (s : Cgb) (i : BusInput) (cartridge wram vram oam : List ℕ) (r : BusOutcome) (lastVram lastOam : List ℕ) : Type 0 where
   pub result : r ≡ busOf s i cartridge wram vram oam
   pub says : busOutcomeSays r ≡ busSaid s i (lengthsOf cartridge wram vram oam)
+  -- the causes by their numbers, 0 in a spare place
+  pub says-causes : causesSay (r .causes) ≡ firstTwo 0 (causeNumbers (busCauses s i (lengthsOf cartridge wram vram oam)))
   pub stored : lastVram ≡ busVram s i (lengthsOf cartridge wram vram oam) cartridge wram vram
   pub deposit : lastOam ≡ busOam s i (lengthsOf cartridge wram vram oam) cartridge wram oam

@@ -3,4 +3,4 @@ pub mod BusCall
 pub mod SharedBusSteps
 pub mod BusCallSteps
 pub mod Inside
-pub mod BusCauses
+pub mod BusCauseSteps

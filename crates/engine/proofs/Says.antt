@@ -3,7 +3,7 @@ pub use Rattle.answers.proofs.Numbers.{told}
 pub use Rattle.register_calls.proofs.Says.{read-told, write-told}
 pub use Rattle.fall_call.proofs.FallCall.{fall-told}
 pub use Rattle.transfer_calls.proofs.Says.{pair-said, next-told, drain-told, lcd-told, retired-told}
-pub use Rattle.bus_calls.proofs.Says.{arbitration-said, conflict-said, bus-told, arbitrate-told, conflict-told}
+pub use Rattle.bus_calls.proofs.Says.{arbitration-said, conflict-said, bus-told, causes-told, arbitrate-told, conflict-told}
 pub use Rattle.speed_calls.proofs.Says.{switch-said, switch-told, blackout-told, wake-told}
 pub use Rattle.object_dma_calls.proofs.Cycles.{cycle-told}
 pub use Rattle.object_dma_calls.proofs.Queries.{object-dma-told}

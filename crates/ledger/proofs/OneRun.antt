@@ -83,7 +83,14 @@ module _ (s : Cgb) where
       (Code.by-bus-call κ4 i (slice c) (slice w) (slice v) (slice o) (busOf s i c w v o)
       (record {
         exit = (s, (i, (slice c, (slice w, (slice (busVram s i n c w v), (slice (busOam s i n c w o), tt))))));
-        told = record { result = refl; says = told.bus-told s i c w v o; stored = refl; deposit = refl };
+        told =
+            record {
+              result = refl;
+              says = told.bus-told s i c w v o;
+              says-causes = told.causes-told s i c w v o;
+              stored = refl;
+              deposit = refl;
+            };
       }))
 
   bus-inside-some : (i : HoldInput) (c w v o : List ℕ) → Some s (Calls.bus-call-inside i (lengthsOf c w v o))
@@ -95,7 +102,14 @@ module _ (s : Cgb) where
       (Code.by-bus-call-inside κ4 i (slice c) (slice w) (slice v) (slice o) (busOf s given c w v o)
       (record {
         exit = (s, (i, (slice c, (slice w, (slice (busVram s given n c w v), (slice (busOam s given n c w o), tt))))));
-        told = record { result = refl; says = told.bus-told s given c w v o; stored = refl; deposit = refl };
+        told =
+            record {
+              result = refl;
+              says = told.bus-told s given c w v o;
+              says-causes = told.causes-told s given c w v o;
+              stored = refl;
+              deposit = refl;
+            };
       }))
 
   cycle-some : (a : Arbitration) (c w v o : List ℕ) → Some s (Calls.object-dma-cycle a (lengthsOf c w v o))

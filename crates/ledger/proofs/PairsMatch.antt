@@ -159,7 +159,7 @@ module _ (k : Configuration) (locked : Bool) (d : VramDma) (l : Ledger) (m : Mat
           subst (Matches (d .cursor .quota)) (sym (steps d r))
           (record {
             next = one-more is-next (some-left r) no-more;
-            caused = one-cause (cause-is r) no-cause;
+            caused = one-cause (some-left r) (cause-is r) no-cause;
             agree = moved-match (advancedOf d) (subst (λ (x : NextByte). Moved d (x .dma)) (steps d r) v) r;
             quota = let fell = subst (λ (x : NextByte). Moved d (x .dma)) (steps d r) v .quota in omega arith;
           })
@@ -183,7 +183,7 @@ then-next (one-more is some rest) more = one-more is some more
 then-cause :
     {l : Ledger} {p : BytePair} {ps : List BytePair} {k : Cause} {ks : List Cause} → CausesFollow l (p ∷ []) (k ∷ []) →
     CausesFollow (afterPair l) ps ks → CausesFollow l (p ∷ ps) (k ∷ ks)
-then-cause (one-cause is rest) more = one-cause is more
+then-cause (one-cause some is rest) more = one-cause some is more
 
 -- pairs until none comes
 pub taken-match :

@@ -21,11 +21,12 @@ use Rattle.ledger.specs.Demand3.{Event, History, then, RunsTo, running, 
 abbrev pub causeIn : Ledger → Cause
 causeIn l = cond (eqb (l .dest) 0xFFFF) Carried (cond (not (l .free) && eqb (l .left) 1) CountedOut GoingOn)
 
--- "each pair with its own"
+-- "each pair with its own": each comes while something is left (demand 3), so that `last-pair` below speaks of each of them
 pub data CausesFollow : Ledger → List BytePair → List Cause → Type 0 where
   no-cause : {l : Ledger} → CausesFollow l [] []
   one-cause :
-      {l : Ledger} {p : BytePair} {ps : List BytePair} {k : Cause} {ks : List Cause} → k ≡ causeIn l → CausesFollow (afterPair l) ps ks →
+      {l : Ledger} {p : BytePair} {ps : List BytePair} {k : Cause} {ks : List Cause} → 0 < l .left → k ≡ causeIn l →
+      CausesFollow (afterPair l) ps ks →
       CausesFollow l (p ∷ ps) (k ∷ ks)
 
 pub record CausesOfLedger : Type 0 where

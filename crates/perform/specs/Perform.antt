@@ -9,13 +9,14 @@ use Rattle.bus.specs.Deposit.{noPair}
 use Rattle.bus.specs.declared.arbitration.Arbitration.{Arbitration}
 use Rattle.bus.specs.declared.commit.BusInput.{BusInput}
 use Rattle.map_write.specs.declared.WriteInput.{WriteInput}
+use Rattle.answers.specs.Answers.{causesSay}
 use Rattle.engine.specs.Calls.{readSaid, writeOf, writeWram, writeSaid, lengthsOf, busSaid, busVram, busOam, busOf}
 use Rattle.engine.specs.Calls.{insideBus, cycleSaid, cycleOam, cycleOf}
 use Rattle.call.specs.declared.Call.{Call}
 use Rattle.call.specs.declared.Call.the-variants.{Write, Read, Bus, BusInside, ObjectDmaCycle, Plain}
 use Rattle.plain.specs.Plain.{plainPerformed}
 use Rattle.told.specs.Declined.{Declined}
-use Rattle.told.specs.Told.{toldOf, toldCauses, telling}
+use Rattle.told.specs.Told.{toldOf, telling}
 use Rattle.told.specs.declared.Performed.{Performed}
 
 unfoldable pub readPerformed : Cgb → List ℕ → ℕ → Performed
@@ -30,7 +31,7 @@ busPerformed s i cartridge wram vram oam =
     record {
       told = toldOf (busSaid s i (lengthsOf cartridge wram vram oam));
       pairs = b .pairs;
-      causes = toldCauses (b .causes);
+      causes = causesSay (b .causes);
       bytes = b .bytes;
       state = b .state;
     }

@@ -1,1 +1,2 @@
 pub mod DeclinedAnswer
+pub mod AnswerLayout

@@ -2,3 +2,4 @@ pub mod Input
 pub mod Kind
 pub mod Record
 pub mod Answer
+pub mod AnswerLayout

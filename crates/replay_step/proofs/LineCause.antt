@@ -1,4 +1,4 @@
--- A line's sixth field is its pair's cause (specs, `LineCause`), of every record at every state. Assumes nothing.
+-- A line's sixth field is its pair's cause (specs, `LineCauses`), of every record at every state. Assumes nothing.
 use Prim.Native.Nat.{ℕ}
 use native.Mathlib.Omega.{arith}
 use mathlib.Core.Path.{_≡_, refl}
@@ -27,7 +27,7 @@ use Rattle.record.specs.Record.{callOf}
 use Rattle.record.specs.declared.Coded.{Coded}
 use Rattle.record.specs.declared.Coded.the-variants.{Call}
 use Rattle.told.specs.Told.{toldOf}
-use Rattle.replay_step.specs.LineCause.{LineCause}
+use Rattle.replay_step.specs.LineCause.{LineCause, LineCauses}
 use Rattle.replay_step.specs.Record.{noRecord, recordOf, recordAtStart}
 use Rattle.replay_step.specs.Step.{lineOf, pairLineOf, toldPair, stepOf}
 use Rattle.replay_step.specs.declared.read.Record.{Record}
@@ -79,7 +79,7 @@ module _ (s : Cgb) (wram : List ℕ) where
   by-kind bytes false true e f = rw (drain-call bytes (eqb-true _ _ f)) escape-drain
   by-kind bytes false false e f = no-pair (callOf bytes)
 
-  pub line-cause : (bytes : List ℕ) → LineCause s (stepOf s wram (recordAtStart bytes) .line)
+  line-cause : (bytes : List ℕ) → LineCause s (stepOf s wram (recordAtStart bytes) .line)
   unfolding recordAtStart recordOf
   line-cause bytes = by (ltb (length bytes) 16) (ltb 7 (byteAt bytes 0))
     where
@@ -91,3 +91,6 @@ module _ (s : Cgb) (wram : List ℕ) where
       by true other = no-pair (noRecord .call)
       by false true = no-pair (noRecord .call)
       by false false = by-kind bytes (eqb (byteAt bytes 0) 3) (eqb (byteAt bytes 0) 6) refl refl
+
+pub line-causes : LineCauses
+line-causes = record { every = line-cause }

@@ -3,10 +3,9 @@
 use Prim.Native.Nat.{ℕ}
 use mathlib.Core.List.{List, [], _∷_}
 use lib.ListN.{getD}
-use Rattle.answers.specs.Answers.{Said, causeNumber}
+use Rattle.answers.specs.Answers.{Said}
 use Rattle.bus.specs.Deposit.{noPair}
 use Rattle.console.specs.declared.Cgb.{Cgb}
-use Rattle.transfer.specs.declared.pair.Causes.{Causes}
 use Rattle.told.specs.declared.Performed.{Performed}
 use Rattle.told.specs.declared.Told.{Told}
 
@@ -25,10 +24,6 @@ toldValues v0 v1 v2 v3 = record { refusal = 0; v0 = v0; v1 = v1; v2 = v2; v3 = v
 
 abbrev pub toldRefused : ℕ → Told
 toldRefused n = record { refusal = n; v0 = 0; v1 = 0; v2 = 0; v3 = 0 }
-
--- the causes of a bus call's pairs (document 02, A3), by their numbers
-abbrev pub toldCauses : Causes → List ℕ
-toldCauses c = causeNumber (c .first) ∷ causeNumber (c .second) ∷ []
 
 -- a call that hands out no bytes
 abbrev pub quietly : Told → Cgb → Performed

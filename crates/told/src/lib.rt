@@ -1,8 +1,8 @@
 // What a call gives, as numbers: the refusal or 0, then up to four values in the order of the definitions
 // (answers/specs/Answers); with a bus call's pairs, causes and bytes, the byte of an M-cycle call, and the state.
 ghost use mathlib.Core.Path.{_≡_};
-ghost use Rattle.answers.specs.Answers.{bitOf, doneSays, byteSays, flagSays, claimSays, tallySays, pairSays, causeNumber, switchSays, arbitrationSays, conflictSays, busSays, cycleSays, objectDmaSays, statusSays, modeSays, accepted};
-ghost use Rattle.told.specs.Told.{toldOf, toldRefused, toldValues, toldCauses, quietly};
+ghost use Rattle.answers.specs.Answers.{bitOf, doneSays, byteSays, flagSays, claimSays, tallySays, pairSays, causeNumber, causesSay, switchSays, arbitrationSays, conflictSays, busSays, cycleSays, objectDmaSays, statusSays, modeSays, accepted};
+ghost use Rattle.told.specs.Told.{toldOf, toldRefused, toldValues, quietly};
 use answers::ArbitrationAnswer;
 use answers::BusAnswer;
 use answers::ByteAnswer;
@@ -207,7 +207,7 @@ pub fn of_bus(a: BusAnswer) -> Told
 
 // The causes of a bus call's pairs.
 pub fn of_causes(c: Causes) -> [u8; 2]
-    ensures { λ r. ⌜ r ≡ toldCauses c ⌝ }
+    ensures { λ r. ⌜ r ≡ causesSay c ⌝ }
 {
     let first = c.first;
     let second = c.second;

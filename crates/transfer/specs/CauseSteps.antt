@@ -23,7 +23,8 @@ pub record CauseSteps : Type 0 where
   pub pair :
       (d : VramDma) (p : BytePair) (k : Cause) → nextByteOf d .answer ≡ Pair p k →
       Caused (d .cursor .dest) (nextByteOf d .dma .cursor .remaining) k
-  -- "if a pair was the last": unless it says going on the engine moves no more, until a length is written
+  -- "if a pair was the last": unless it says going on the engine does not move after it (that no pair comes until a length is written
+  -- is demand 3's: left is the ledger's, and none comes while that is 0)
   pub none-after :
       (d : VramDma) (p : BytePair) (k : Cause) → nextByteOf d .answer ≡ Pair p k → (k ≡ GoingOn → ⊥) →
       movingOf (nextByteOf d .dma) ≡ false

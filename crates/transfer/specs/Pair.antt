@@ -66,9 +66,9 @@ abbrev pub pairOf : TransferCursor → BytePair
 pairOf c = record { source = c .source; dest = writeAddress c }
 
 -- document 02, A3: "one of going on, counted out (left fell to 0), or carried (past FFFFh), this also where left would have
--- reached 0 anyway"; by whether the destination carries, and what is left after the pair
+-- reached 0 anyway"; by whether the destination was carried, and what is left after the pair
 abbrev pub causeIf : Bool → ℕ → Cause
-causeIf carries left = cond carries Carried (cond (eqb left 0) CountedOut GoingOn)
+causeIf carried left = cond carried Carried (cond (eqb left 0) CountedOut GoingOn)
 
 abbrev pub causeOf : TransferCursor → Cause
 causeOf c = causeIf (eqb (c .dest) 0xFFFF) (leftAfter c)

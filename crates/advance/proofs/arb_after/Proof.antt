@@ -5,15 +5,7 @@ use Rattle.advance.proofs.arb_after.Tie as tie
 
 returns : tie.Need-returns
 unfolding arbAfter
-returns c =
-    let unclaimed = c .before in
-    let unparked = unclaimed .before in
-    simp (
-      c .with-arb-granted-ahead .ensures,
-      unclaimed .with-arb-idle-claim .ensures,
-      unparked .with-arb-park-waits-for-fetch .ensures,
-      unparked .before .before .before .less-one-if .ensures,
-    )
+returns c = simp (c .before .before .less-one-if .ensures)
 
 pub arb-after-spec : {M : Type 1} → statement M
-arb-after-spec = tie.close (tie.spec (λ _ _. tt) (λ _ _. tt) (λ _ _. tt) (λ _ _. tt) returns)
+arb-after-spec = tie.close (tie.spec (λ _ _. tt) returns)

@@ -11,7 +11,7 @@ use Rattle.answers.specs.CauseNumbers.{CauseTold}
 use Rattle.bus_calls.specs.BusCall.{Lengths, busPairs, busCauses, busState}
 
 -- of every call, declined ones too, of either form: a bus call from inside is one with the state's start edge
-pub record BusCauses (s : Cgb) (i : BusInput) (n : Lengths) : Type 0 where
+pub record BusCauseSteps (s : Cgb) (i : BusInput) (n : Lengths) : Type 0 where
   pub each : length (busCauses s i n) ≡ length (busPairs s i n)
   -- one pair: by the destination register in front of the call, and what the call leaves
   pub of-one :

@@ -1,4 +1,4 @@
--- A bus call answers with the causes that the request names (specs, `BusCauses`). Assumes nothing.
+-- A bus call answers with the causes that the request names (specs, `BusCauseSteps`). Assumes nothing.
 use Prim.Native.Nat.{ℕ, _+_, _%_}
 use native.Mathlib.Omega.{arith}
 use mathlib.Core.Path.{_≡_, refl, ap}
@@ -16,7 +16,7 @@ use Rattle.answers.specs.Answers.{causeNumber}
 use Rattle.answers.specs.CauseNumbers.{CauseTold}
 use Rattle.answers.proofs.CauseNumbers.{is-zero, cause-told}
 use Rattle.bus_calls.specs.BusCall.{Lengths, busRefusal, takenIn, busPairs, busCauses, busState}
-use Rattle.bus_calls.specs.BusCauses.{BusCauses}
+use Rattle.bus_calls.specs.BusCauseSteps.{BusCauseSteps}
 
 none-there : (k : Cause) (more : List Cause) → _≡_ {A = List Cause} [] (k ∷ more) → ⊥
 none-there k more e = let z : 0 ≡ length (k ∷ more) = ap (λ (xs : List Cause). length xs) e in omega (arith, z)
@@ -41,6 +41,6 @@ module _ (s : Cgb) (i : BusInput) (n : Lengths) where
       )
   by-number false = (refl, λ k e. absurd (none-there k [] e), λ j k e. absurd (none-there j (k ∷ []) e))
 
-  pub bus-causes : BusCauses s i n
+  pub bus-cause-steps : BusCauseSteps s i n
   unfolding busPairs busCauses busState
-  bus-causes = let told = by-number (eqb (busRefusal s n) 0) in record { each = told .0; of-one = told .1; of-two = told .2 }
+  bus-cause-steps = let told = by-number (eqb (busRefusal s n) 0) in record { each = told .0; of-one = told .1; of-two = told .2 }
