@@ -1,3 +1,4 @@
 pub mod Written
 pub mod Steps
+pub mod FromBit7
 pub mod Reading

@@ -9,6 +9,7 @@ use console::vram_dma::TransferCursor;
 use console::vram_dma::TransferMode;
 use console::vram_dma::VramDma;
 
+// From bit 7 down, as Pan Docs lists the bits: the active bit, then the remaining length.
 pub fn status_byte(d: VramDma) -> u8
     ensures { λ r. ⌜ r ≡ statusByte d ⌝ }
 {
@@ -16,8 +17,9 @@ pub fn status_byte(d: VramDma) -> u8
     let mode = c.mode;
     let visible = saturating_sub16(c.remaining / 16, wide(d.arb.granted_ahead));
     let active = mode.is_hblank() & (visible > 0);
-    let low = ((visible % 128 + 127) % 128) as u8;
-    pick8(active, low, 128 + low)
+    let active_bit = pick8(active, 0, 128);
+    let remaining_length = ((visible % 128 + 127) % 128) as u8;
+    active_bit + remaining_length
 }
 
 // Blocks granted and pends granted are counted from the write on.
