@@ -18,6 +18,7 @@
 //!     MISSINGNO_SRC=.. cargo run --release -- judge SCRIPT LOG
 //!     MISSINGNO_SRC=.. cargo run --release -- frame
 //!     MISSINGNO_SRC=.. cargo run --release --features port -- compare SEED COUNT [rising]
+//!     MISSINGNO_SRC=.. cargo run --release --features port -- ff55
 //!
 //! KINDS are as 1-26,30. Built with BRANCHES=1 the run tells at its end which conditions of the original never came out one way.
 //!
@@ -33,6 +34,8 @@ mod cause_counts;
 #[cfg(feature = "port")]
 mod compare;
 pub mod entry;
+#[cfg(feature = "port")]
+mod ff55;
 mod fill;
 mod finer;
 mod frame;
@@ -149,7 +152,7 @@ pub fn command() {
     let words: Vec<String> = names.iter().map(|name| name.to_string_lossy().into_owned()).collect();
     let usage = "usage: oracle vectors|select|object_dma SEED COUNT [KINDS] | cases | aimed | finer SEED COUNT [KINDS] | stored \
                  | script SEED COUNT [whole] | sample [judge] | replay | log | judge SCRIPT LOG | frame \
-                 | compare SEED COUNT [rising]";
+                 | compare SEED COUNT [rising] | ff55";
     match words.first().map(String::as_str) {
         Some("vectors") => vectors::write(&words[1..], usage),
         Some("select") => vectors::select(&words[1..], usage, false),
@@ -173,9 +176,11 @@ pub fn command() {
         Some("frame") => frame::run(),
         #[cfg(feature = "port")]
         Some("compare") => compare::run(&words[1..], usage),
+        #[cfg(feature = "port")]
+        Some("ff55") => ff55::run(),
         #[cfg(not(feature = "port"))]
-        Some("compare") => {
-            eprintln!("compare: built without the port: sh tools/library, and build again with --features port");
+        Some(command @ ("compare" | "ff55")) => {
+            eprintln!("{command}: built without the port: sh tools/library, and build again with --features port");
             std::process::exit(2);
         }
         _ => wrong_words(usage),
