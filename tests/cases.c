@@ -23,7 +23,7 @@ static unsigned failures;
 static void equal(unsigned long long got, unsigned long long expected, const char *what, int line)
 {
     comparisons++;
-    if (got != expected && ++failures <= 20) {
+    if (got != expected && ++failures <= 20) { /* one fault in FF55 would print a million lines */
         fprintf(stderr, "tests/cases.c:%d: %s is %llu (%llXh), not %llu (%llXh)\n", line, what, got, got, expected, expected);
     }
 }
