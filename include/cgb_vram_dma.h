@@ -16,8 +16,8 @@
 
 /* 10000 times the first number, 100 times the second, and the third. The first grows where a name goes, or where a signature or a
  * layout becomes another, here or in the Rust wrapper; until then a program that compiled still compiles and links, and its states
- * are still taken. Otherwise the second grows with each landing (docs/LANDINGS.md: base 8 is 1.8, A1 1.9, A2 1.10, A3 2.0, A4 2.1), which
- * may add names and accept what was refused: docs/LIBRARY.md says what to look at. The third grows with a correction between two.
+ * are still taken. Otherwise the second grows with each landing (docs/LANDINGS.md: base 8 is 1.8, A1 1.9, A2 1.10, A3 2.0, A4 2.1),
+ * which may add names and accept what was refused: docs/LIBRARY.md says what to look at. The third grows with a correction between two.
  * 2.0 is the wrapper's, where a struct has a field more: here every name, signature and place of 1.10 is as it was. */
 #define CGB_VRAM_DMA_VERSION 20100
 #define CGB_VRAM_DMA_VERSION_TEXT "2.1.0"
