@@ -9,7 +9,7 @@ use console::vram_dma::TransferCursor;
 use console::vram_dma::TransferMode;
 use console::vram_dma::VramDma;
 
-// From bit 7 down: the active bit, 0 where a transfer is active; then the remaining length, 127 where no block shows.
+// From bit 7 down: the active bit, 0 while armed with a block to show; then the remaining length, 127 where no block shows.
 pub fn status_byte(d: VramDma) -> u8
     ensures { λ r. ⌜ r ≡ statusByte d ⌝ }
 {
