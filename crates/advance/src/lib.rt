@@ -1,5 +1,7 @@
 // A pair: the address that its byte lands on, cursor, block and arbiter after it (vram_dma.rs, `write_address`, `next_byte`),
 // and how the run goes on. Whether one comes is asked in `next_pair`.
+#![tactic(auto)]
+
 ghost use Rattle.std.specs.Prelude.{◌≡◌};
 ghost use Rattle.transfer.specs.Questions.{write_address};
 ghost use Rattle.transfer.specs.Pair.{left_if, cursor_after, block_after, arb_after, advanced_of, cause_if};
@@ -26,6 +28,7 @@ fn left_after(c: TransferCursor, carried: bool) -> u16
     pick16(carried, 0, counted)
 }
 
+#[tactic(auto, unfolding(transfer::specs::Pair::cursor_after))]
 fn cursor_after(c: TransferCursor) -> TransferCursor
     ensures { result ≡ cursor_after c }
 {
@@ -45,6 +48,7 @@ fn cursor_after(c: TransferCursor) -> TransferCursor
     }
 }
 
+#[tactic(auto, unfolding(transfer::specs::Pair::block_after))]
 fn block_after(b: HblankBlock) -> HblankBlock
     ensures { result ≡ block_after b }
 {
@@ -55,6 +59,7 @@ fn block_after(b: HblankBlock) -> HblankBlock
 }
 
 // last: the pair is the block's last one; ended: nothing is left.
+#[tactic(auto, unfolding(transfer::specs::Pair::arb_after))]
 fn arb_after(a: HaltArbiter, last: bool, ended: bool) -> HaltArbiter
     ensures { result ≡ arb_after last ended a }
 {
@@ -69,6 +74,7 @@ fn arb_after(a: HaltArbiter, last: bool, ended: bool) -> HaltArbiter
     after
 }
 
+#[tactic(auto, unfolding(transfer::specs::Pair::advanced_of, transfer::specs::Pair::cursor_after))]
 pub fn advance(d: VramDma) -> VramDma
     ensures { result ≡ advanced_of d }
 {

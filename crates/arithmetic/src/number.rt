@@ -3,7 +3,7 @@
 ghost use Rattle.std.specs.Prelude.{◌≡◌, [], ◌∷◌};
 ghost use Rattle.arithmetic.specs.Number.{number, eight_of};
 
-#[derive(Drop)]
+#[derive(Clone, Copy)]
 pub struct Eight {
     pub b0: u8,
     pub b1: u8,

@@ -40,7 +40,7 @@ pub fn saturating_sub32(a: u32, b: u32) -> u32
 }
 
 // A sum within 16 bits, with the carry out of them: `(u16, bool)` in the Rust.
-#[derive(Drop)]
+#[derive(Clone, Copy)]
 pub struct Carried {
     pub sum: u16,
     pub carry: bool,

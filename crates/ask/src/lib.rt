@@ -1,4 +1,6 @@
 // Every query through one function. Written by tools/calls from calls.txt.
+#![tactic(auto)]
+
 ghost use Rattle.std.specs.Prelude.{◌≡◌};
 ghost use Rattle.told.specs.Told.{told_of};
 ghost use Rattle.ask.specs.Ask.{asked_of};
@@ -7,6 +9,7 @@ use call::query::Query;
 use console::Cgb;
 use told::Told;
 
+#[tactic(auto, unfolding(crate::specs::Ask::asked_of))]
 pub fn ask(state: Cgb, query: Query) -> Told
     ensures { result ≡ told_of (asked_of state query) }
 {

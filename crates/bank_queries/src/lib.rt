@@ -1,4 +1,6 @@
 // What is asked of FF70, the bank of work RAM, and changes nothing (lib.rs, registers.rs). Each tests 7.
+#![tactic(auto)]
+
 ghost use Rattle.answers.specs.Queries.{AnswersByte};
 ghost use Rattle.bank_queries.specs.Queries.{bank_selected, svbk_written};
 

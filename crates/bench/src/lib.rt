@@ -1,5 +1,7 @@
 // What the measurements run (bench/): many calls on one state that is read once from its bytes and written back once, so
 // that the calls themselves are timed and not the codec.
+#![tactic(auto)]
+
 ghost use Rattle.bench.specs.Falls.{step_fall, step_bus, Held, Benched};
 ghost use Rattle.std.specs.Prelude.{◌≡◌};
 

@@ -1,5 +1,7 @@
 // A blackout (speed_switch.rs): what is asked of it, how it drains, and how a wake in it is taken in
 // (`relock_edges`, `blackout_active`, `blackout_divider_active`, `drain_blackout`, `wake_intake_ready`).
+#![tactic(auto)]
+
 ghost use Rattle.std.specs.Prelude.{◌≡◌};
 ghost use Rattle.blackout.specs.Blackout.{relock_edges, blackout_active, divider_active, latency_after_drain, latency_after_wake, drained_of, woken_of};
 ghost use Rattle.console.specs.Set.{with_speed_switch_blackout, with_speed_switch_wake_latency};
@@ -9,7 +11,7 @@ use arithmetic::step::{less_one_if, saturating_sub32};
 use console::{Cgb, WakeLatency};
 
 // A flag, with the state after.
-#[derive(Drop)]
+#[derive(Clone, Copy)]
 pub struct Flagged {
     pub flag: bool,
     pub state: Cgb,
@@ -50,6 +52,7 @@ fn with_latency(s: Cgb, blackout: u32, latency: WakeLatency) -> Cgb
 }
 
 // The flag: the blackout is over.
+#[tactic(auto, unfolding(crate::specs::Blackout::drained_of))]
 pub fn drain_blackout(s: Cgb, elapsed: u32) -> Flagged
     ensures { result ≡ drained_of elapsed s }
 {
@@ -74,6 +77,7 @@ fn latency_after_wake(latency: WakeLatency, mcycle_boundary: bool) -> u8
 }
 
 // The flag: the wake is ready.
+#[tactic(auto, unfolding(crate::specs::Blackout::woken_of))]
 pub fn wake_intake_ready(s: Cgb, mcycle_boundary: bool) -> Flagged
     ensures { result ≡ woken_of mcycle_boundary s }
 {

@@ -1,4 +1,6 @@
 // Step 6 of a fall: blinds, commit, tenure, new pend, readiness, quota, seize count.
+#![tactic(auto)]
+
 ghost use Rattle.std.specs.Prelude.{◌≡◌};
 ghost use Rattle.fall_stages.specs.Fall.{blinds_of, commits, commit_of, tenure_of, pend_of, readiness_of, seizure_of, served_of, decided_of};
 
@@ -6,6 +8,7 @@ use console::VramDmaClaim;
 use console::vram_dma::VramDma;
 use fall_stages::{Fallen, View};
 
+#[tactic(auto, unfolding(fall_stages::specs::Fall::blinds_of))]
 pub fn step_blinds(d: VramDma, v: View) -> VramDma
     ensures { result ≡ blinds_of v d }
 {
@@ -24,6 +27,7 @@ fn committing(d: VramDma, v: View) -> bool
         & (!v.cpu_halted | (d.arb.pend_age <= 2) | d.arb.pend_granted)
 }
 
+#[tactic(auto, unfolding(fall_stages::specs::Fall::commit_of))]
 fn commit(d: VramDma, v: View, committing: bool) -> VramDma
     ensures { result ≡ commit_of committing v d }
 {
@@ -33,6 +37,7 @@ fn commit(d: VramDma, v: View, committing: bool) -> VramDma
 }
 
 // The wake drain's tenure consumes an entry that lands in it.
+#[tactic(auto, unfolding(fall_stages::specs::Fall::tenure_of))]
 fn step_tenure(d: VramDma, v: View) -> VramDma
     ensures { result ≡ tenure_of v d }
 {
@@ -42,6 +47,7 @@ fn step_tenure(d: VramDma, v: View) -> VramDma
     rebuild::with_dma_block(rebuild::with_dma_arb(d, arb), block)
 }
 
+#[tactic(auto, unfolding(fall_stages::specs::Fall::pend_of))]
 fn renew_pend(d: VramDma, v: View, committing: bool) -> VramDma
     ensures { result ≡ pend_of committing v d }
 {
@@ -55,6 +61,7 @@ fn renew_pend(d: VramDma, v: View, committing: bool) -> VramDma
     rebuild::with_dma_arb(d, arb)
 }
 
+#[tactic(auto, unfolding(fall_stages::specs::Fall::readiness_of))]
 fn step_readiness(d: VramDma, double_speed: bool) -> VramDma
     ensures { result ≡ readiness_of double_speed d }
 {
@@ -62,6 +69,7 @@ fn step_readiness(d: VramDma, double_speed: bool) -> VramDma
     rebuild::with_dma_block(d, block)
 }
 
+#[tactic(auto, unfolding(fall_stages::specs::Fall::seizure_of))]
 fn count_seizure(d: VramDma) -> VramDma
     ensures { result ≡ seizure_of d }
 {
@@ -71,6 +79,7 @@ fn count_seizure(d: VramDma) -> VramDma
 }
 
 // What follows the decision to commit or not.
+#[tactic(auto, unfolding(fall_stages::specs::Fall::served_of))]
 fn serve(d: VramDma, v: View, committing: bool) -> VramDma
     ensures { result ≡ served_of committing v d }
 {
@@ -82,6 +91,7 @@ fn serve(d: VramDma, v: View, committing: bool) -> VramDma
 }
 
 // Step 6 from the commit on, of the state after the blinds; refused, the state is the one given.
+#[tactic(auto, unfolding(fall_stages::specs::Fall::decided_of))]
 pub fn decide(given: VramDma, d: VramDma, v: View) -> Fallen
     ensures { result ≡ decided_of v given d }
 {

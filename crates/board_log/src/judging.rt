@@ -5,7 +5,7 @@ ghost use Rattle.board_log.specs.Judging.{begun};
 use console::Cgb;
 
 // The engine's state after the records judged so far; how many of them, from the first on, are the engine's; and whether one is not.
-#[derive(Drop)]
+#[derive(Clone, Copy)]
 pub struct Judge {
     pub state: Cgb,
     pub agreed: u64,
@@ -13,12 +13,13 @@ pub struct Judge {
 }
 
 // The judge after a part, and how many bytes it took of script and log each.
-#[derive(Drop)]
+#[derive(Clone, Copy)]
 pub struct Fed {
     pub judge: Judge,
     pub taken: usize,
 }
 
+#[tactic(auto, unfolding(crate::specs::Judging::begun))]
 pub fn begin() -> Judge
     ensures { result ≡ begun }
 {

@@ -18,6 +18,7 @@ fn high(n: u16) -> u8
 }
 
 // The engine's record of a step.
+#[tactic(auto, unfolding(crate::specs::LogRecord::log_record))]
 pub fn log_record(line: Line) -> [u8; 16]
     ensures { result ≡ log_record line }
 {

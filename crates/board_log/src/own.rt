@@ -2,7 +2,7 @@
 use console::Cgb;
 
 // The state after a part of a script, and how many bytes were taken of it, as many as were written.
-#[derive(Drop)]
+#[derive(Clone, Copy)]
 pub struct Logged {
     pub state: Cgb,
     pub taken: usize,

@@ -6,7 +6,7 @@ ghost use Rattle.board_log.specs.Verdict.{verdict_of, verdict_text};
 use crate::judging::Judge;
 
 // Every record is the engine's; the number from 0 of the first that is not; or 22.
-#[derive(Drop)]
+#[derive(Clone, Copy)]
 pub enum Verdict {
     Yes,
     Wrong(u64),
@@ -14,6 +14,7 @@ pub enum Verdict {
 }
 
 // The answer where so many bytes of script and log are left over.
+#[tactic(auto, unfolding(crate::specs::Verdict::verdict_of))]
 pub fn conclude(j: Judge, script_left: usize, log_left: usize) -> Verdict
     ensures { result ≡ verdict_of j script_left log_left }
 {
@@ -33,6 +34,7 @@ fn put_number(out: &mut [u8], at: usize, number: u64) -> usize
     text::put(out, to, b'\n')
 }
 
+#[tactic(auto, unfolding(crate::specs::Verdict::verdict_text, text::specs::Text::decimal, text::specs::Text::decimal_within))]
 pub fn put_verdict(out: &mut [u8], at: usize, verdict: Verdict) -> usize
     ensures { Put out.old at (verdict_text verdict) result out.new }
 {

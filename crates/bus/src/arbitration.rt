@@ -2,7 +2,7 @@
 use console::vram_dma::OamContention;
 
 // What arbitration is given.
-#[derive(Drop)]
+#[derive(Clone, Copy)]
 pub struct ArbitrationInput {
     // A bus master holds the CPU.
     pub hold: bool,
@@ -11,7 +11,7 @@ pub struct ArbitrationInput {
     pub oam_transferring: bool,
 }
 
-#[derive(Drop)]
+#[derive(Clone, Copy)]
 pub enum Arbitration {
     Clear,
     // OAM DMA latches the VRAM DMA's byte.
@@ -20,7 +20,7 @@ pub enum Arbitration {
     Stall,
 }
 
-#[derive(Drop)]
+#[derive(Clone, Copy)]
 pub struct Arbitrated {
     pub answer: Arbitration,
     pub oam: OamContention,

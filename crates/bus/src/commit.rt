@@ -3,7 +3,7 @@ use console::vram_dma::VramDma;
 use transfer::pair::{BytePair, Causes};
 
 // What a bus call is given.
-#[derive(Drop)]
+#[derive(Clone, Copy)]
 pub struct BusInput {
     // A bus master holds the CPU.
     pub hold: bool,
@@ -13,14 +13,14 @@ pub struct BusInput {
 }
 
 // The banks that source and destination go through.
-#[derive(Drop)]
+#[derive(Clone, Copy)]
 pub struct Banks {
     pub svbk: u8,
     pub vram: u8,
 }
 
 // The pairs of a call, how many there were, their causes and their bytes; the engine after them.
-#[derive(Drop)]
+#[derive(Clone, Copy)]
 pub struct Run {
     pub dma: VramDma,
     pub count: u8,

@@ -15,6 +15,7 @@ use console::{Cgb, refusal};
 
 // Not by a call of the other form: a state that two calls hand to one function goes through memory, and a record of the replay took a
 // third more instructions.
+#[tactic(auto, unfolding(crate::specs::Bus::arbitration_call_of))]
 pub fn vram_dma_arbitrate_inside(state: Cgb, input: HoldInput) -> Arbitrated
     ensures { Answers arbitrated_says (arbitration_call_of state (inside_arbitration state input))
         (arbitration_said state (inside_arbitration state input)) result }

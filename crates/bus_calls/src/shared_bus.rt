@@ -19,6 +19,7 @@ pub(crate) fn told(answer: Arbitration) -> ArbitrationAnswer
     }
 }
 
+#[tactic(auto, unfolding(crate::specs::Bus::arbitration_call_of))]
 pub fn vram_dma_arbitrate_oam(state: Cgb, input: ArbitrationInput) -> Arbitrated
     ensures { Answers arbitrated_says (arbitration_call_of state input) (arbitration_said state input) result }
 {
@@ -50,6 +51,7 @@ fn collides(found: Conflict) -> ConflictAnswer
 }
 
 // An address outside VRAM collides with nothing.
+#[tactic(auto, unfolding(crate::specs::Bus::conflict_call_of))]
 pub fn vram_dma_conflict_source(state: Cgb, address: u16) -> ConflictAnswer
     ensures { Answers conflict_says (conflict_call_of state address) (conflict_said state address) result }
 {

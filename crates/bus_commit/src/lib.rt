@@ -1,4 +1,6 @@
 // The bus call (vram_dma.rs, `vram_dma_commit_bytes`, `take_setup_cell`): nothing, a set-up cell, or pairs and the deposit.
+#![tactic(auto)]
+
 ghost use Rattle.std.specs.Prelude.{◌≡◌};
 ghost use Rattle.bus.specs.Commit.{rest_run, setup_run, Committed};
 

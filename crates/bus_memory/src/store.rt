@@ -13,6 +13,7 @@ pub fn commit_vram(vram: &mut [u8], bank: u8, address: u16, byte: u8)
 }
 
 // A byte for OAM. Above FE9F nothing is stored.
+#[tactic(auto, unfolding(bus::specs::Store::oam_with))]
 pub fn commit_oam(oam: &mut [u8], address: u16, byte: u8)
     ensures { oam.new ≡ oam_with oam.old address byte }
 {

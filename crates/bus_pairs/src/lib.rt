@@ -1,4 +1,6 @@
 // The pairs of a bus call: taken until none comes, each byte read and stored (vram_dma.rs, `vram_dma_commit_bytes`).
+#![tactic(auto)]
+
 ghost use Rattle.std.specs.Prelude.{◌≡◌, cond, eqb, set};
 ghost use Rattle.bus.specs.Commit.{Ran, loop_of};
 

@@ -1,6 +1,8 @@
 // The model for programs in other languages: the state as its 248 bytes, a call as a record of 16, an
 // answer as a record of 24, slices as pointer and length (include/cgb_vram_dma.h has every layout); and the
 // estimate of a General transfer, which takes no state.
+#![tactic(auto)]
+
 ghost use Rattle.std.specs.Prelude.{◌≡◌, not, eqb};
 ghost use Rattle.estimate.specs.Estimate.{estimated_bytes, estimated_cycles};
 ghost use Rattle.c_api.specs.Entry.{Entered, powered_on};
@@ -10,6 +12,7 @@ use record::answer;
 
 // The state at power-on; compat if not 0.
 #[unsafe(no_mangle)]
+#[tactic(auto, unfolding(crate::specs::Entry::powered_on))]
 pub extern "C" fn cgb_power_on(state: &mut [u8; 248], compat: u8)
     ensures { state.new ≡ powered_on compat }
 {
@@ -49,6 +52,7 @@ pub extern "C" fn cgb_perform(
 
 // The bytes of a General transfer, from the value for FF55 and the destination register.
 #[unsafe(no_mangle)]
+#[tactic(auto, unfolding(estimate::specs::Estimate::estimate_of))]
 pub extern "C" fn cgb_estimate_bytes(value: u8, destination: u16) -> u16
     ensures { result ≡ estimated_bytes value destination }
 {
@@ -58,6 +62,7 @@ pub extern "C" fn cgb_estimate_bytes(value: u8, destination: u16) -> u16
 
 // The M-cycles that they take; at double speed if not 0.
 #[unsafe(no_mangle)]
+#[tactic(auto, unfolding(estimate::specs::Estimate::estimate_of))]
 pub extern "C" fn cgb_estimate(value: u8, destination: u16, double_speed: u8) -> u16
     ensures { result ≡ estimated_cycles value destination (not (eqb double_speed 0)) }
 {

@@ -1,4 +1,6 @@
 // The calls as one type, each with its inputs. Those that are lent no memory stand in a type of their own.
+#![tactic(auto)]
+
 pub mod query;
 
 use bus::arbitration::{Arbitration, ArbitrationInput};
@@ -9,7 +11,7 @@ use map_write::WriteInput;
 use query::Query;
 use speed_switch::switch::SwitchInput;
 
-#[derive(Drop)]
+#[derive(Clone, Copy)]
 pub enum Call {
     Write { address: u16, input: WriteInput },
     Read(u16),
@@ -19,7 +21,7 @@ pub enum Call {
     Plain(PlainCall),
 }
 
-#[derive(Drop)]
+#[derive(Clone, Copy)]
 pub enum PlainCall {
     Fall(FallInput),
     NextPair,

@@ -1,5 +1,5 @@
 // What is asked of the state and changes nothing. Written by tools/calls from calls.txt.
-#[derive(Drop)]
+#[derive(Clone, Copy)]
 pub enum Query {
     Tally,
     Status,

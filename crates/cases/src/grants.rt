@@ -4,7 +4,7 @@ use answers::ClaimAnswer;
 use console::Cgb;
 
 // Where the run stands; from the first refusal on it does not go on.
-#[derive(Drop)]
+#[derive(Clone, Copy)]
 struct Course {
     state: Cgb,
     round: u16,

@@ -1,6 +1,8 @@
 // Runs document 01's cases and declined inputs, and document 02's object DMA and estimate, through the public functions, a line for
 // each observation.
 // What the lines must say stands in the file stdout, written from the papers' numbers and rules.
+#![tactic(auto)]
+
 mod blackouts;
 mod calls;
 mod cuts;

@@ -6,7 +6,7 @@ use console::Cgb;
 use transfer::pair::{BytePair, Cause};
 
 // A transfer under way, with what has come of it.
-#[derive(Drop)]
+#[derive(Clone, Copy)]
 pub struct Run {
     pub state: Cgb,
     pub falls: u8,

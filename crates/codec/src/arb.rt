@@ -7,6 +7,7 @@ use crate::run::{eight_at, place};
 use console::vram_dma::HaltArbiter;
 use countdown::Countdown;
 
+#[tactic(auto, unfolding(crate::specs::Arb::arb_bytes))]
 pub(crate) fn put_arb(out: &mut [u8; 248], a: HaltArbiter)
     ensures { out.new ≡ sets out.old 24 (arb_bytes a) }
 {
@@ -30,6 +31,7 @@ pub(crate) fn put_arb(out: &mut [u8; 248], a: HaltArbiter)
     place(out, 24, &part);
 }
 
+#[tactic(auto, unfolding(crate::specs::Arb::arb_of))]
 pub(crate) fn arb_of(b: &[u8; 248]) -> HaltArbiter
     ensures { result ≡ arb_of b.now }
 {

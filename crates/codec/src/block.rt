@@ -8,6 +8,7 @@ use arithmetic::number::{in_eight, of_eight};
 use console::vram_dma::HblankBlock;
 use countdown::Countdown;
 
+#[tactic(auto, unfolding(crate::specs::Block::block_bytes))]
 pub(crate) fn put_block(out: &mut [u8; 248], k: HblankBlock)
     ensures { out.new ≡ sets out.old 9 (block_bytes k) }
 {
@@ -32,6 +33,7 @@ pub(crate) fn put_block(out: &mut [u8; 248], k: HblankBlock)
     place(out, 9, &part);
 }
 
+#[tactic(auto, unfolding(crate::specs::Block::block_of))]
 pub(crate) fn block_of(b: &[u8; 248]) -> HblankBlock
     ensures { result ≡ block_of b.now }
 {

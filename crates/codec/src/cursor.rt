@@ -29,6 +29,7 @@ fn mode_of(x: u8) -> TransferMode
     TransferMode::HBlank
 }
 
+#[tactic(auto, unfolding(crate::specs::Cursor::cursor_bytes))]
 pub(crate) fn put_cursor(out: &mut [u8; 248], c: TransferCursor)
     ensures { out.new ≡ sets out.old 0 (cursor_bytes c) }
 {
@@ -51,6 +52,7 @@ pub(crate) fn put_cursor(out: &mut [u8; 248], c: TransferCursor)
     place(out, 0, &part);
 }
 
+#[tactic(auto, unfolding(crate::specs::Cursor::cursor_of))]
 pub(crate) fn cursor_of(b: &[u8; 248]) -> TransferCursor
     ensures { result ≡ cursor_of b.now }
 {

@@ -1,4 +1,6 @@
 // The state as 248 bytes at fixed offsets, and back (docs/STATE-LAYOUT.md).
+#![tactic(auto)]
+
 mod arb;
 mod block;
 mod cursor;
@@ -22,12 +24,13 @@ use rest::{console_of, extra_of, latency_of, put_bank, put_extra, put_registers,
 use run::same;
 
 // What bytes read as, and whether they are canonical: exactly what `encode` writes of that.
-#[derive(Drop)]
+#[derive(Clone, Copy)]
 pub struct Decoded {
     pub valid: bool,
     pub state: Cgb,
 }
 
+#[tactic(auto, unfolding(crate::proofs::State::sized))]
 pub fn encode(state: Cgb) -> [u8; 248]
     ensures { result ≡ encode_of state }
 {
@@ -50,6 +53,7 @@ pub fn encode(state: Cgb) -> [u8; 248]
     out
 }
 
+#[tactic(auto, unfolding(crate::specs::Codec::dma_of))]
 fn dma_of(b: &[u8; 248]) -> VramDma
     ensures { result ≡ dma_of b.now }
 {
@@ -61,6 +65,7 @@ fn dma_of(b: &[u8; 248]) -> VramDma
     }
 }
 
+#[tactic(auto, unfolding(crate::specs::Codec::state_of))]
 fn state_of(b: &[u8; 248]) -> Cgb
     ensures { result ≡ state_of b.now }
 {
@@ -85,6 +90,7 @@ fn state_of(b: &[u8; 248]) -> Cgb
     }
 }
 
+#[tactic(auto, unfolding(crate::specs::Codec::decode_of))]
 pub fn decode(bytes: [u8; 248]) -> Decoded
     ensures { result ≡ decode_of bytes }
 {

@@ -6,6 +6,7 @@ ghost use Rattle.codec.specs.Oam.{oam_bytes, oam_of};
 use crate::run::place;
 use console::vram_dma::OamContention;
 
+#[tactic(auto, unfolding(crate::specs::Oam::oam_bytes))]
 pub(crate) fn put_oam(out: &mut [u8; 248], o: OamContention)
     ensures { out.new ≡ sets out.old 39 (oam_bytes o) }
 {
@@ -13,6 +14,7 @@ pub(crate) fn put_oam(out: &mut [u8; 248], o: OamContention)
     place(out, 39, &part);
 }
 
+#[tactic(auto, unfolding(crate::specs::Oam::oam_of))]
 pub(crate) fn oam_of(b: &[u8; 248]) -> OamContention
     ensures { result ≡ oam_of b.now }
 {

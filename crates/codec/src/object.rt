@@ -7,6 +7,7 @@ use crate::run::{eight_at, place};
 use arithmetic::number::{in_eight, of_eight};
 use console::object::ObjectDma;
 
+#[tactic(auto, unfolding(crate::specs::Object::object_bytes))]
 pub(crate) fn put_object(out: &mut [u8; 248], o: ObjectDma)
     ensures { out.new ≡ sets out.old 91 (object_bytes o) }
 {
@@ -27,6 +28,7 @@ pub(crate) fn put_object(out: &mut [u8; 248], o: ObjectDma)
     place(out, 91, &part);
 }
 
+#[tactic(auto, unfolding(crate::specs::Object::object_of))]
 pub(crate) fn object_of(b: &[u8; 248]) -> ObjectDma
     ensures { result ≡ object_of b.now }
 {

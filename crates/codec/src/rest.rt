@@ -11,7 +11,7 @@ use arithmetic::number::{in_eight, of_eight, of_four};
 use console::{Cgb, CgbConsoleState, VramDmaClaim, WakeLatency};
 
 // The wake latency as its two bytes.
-#[derive(Drop)]
+#[derive(Clone, Copy)]
 pub(crate) struct Tagged {
     pub tag: u8,
     pub value: u8,
@@ -36,6 +36,7 @@ pub(crate) fn latency_of(b: &[u8; 248]) -> WakeLatency
 }
 
 // SVBK, KEY1, the speed switch and FF72 to FF75: bytes 41 to 55.
+#[tactic(auto, unfolding(crate::specs::Rest::register_bytes))]
 pub(crate) fn put_registers(out: &mut [u8; 248], s: Cgb)
     ensures { out.new ≡ sets out.old 41 (register_bytes s) }
 {
@@ -70,6 +71,7 @@ pub(crate) fn put_extra(out: &mut [u8; 248], extra: [u8; 24])
 }
 
 // VRAM's bank, the blackout's anchor and the claim: bytes 80 to 90.
+#[tactic(auto, unfolding(crate::specs::Rest::bank_bytes))]
 pub(crate) fn put_bank(out: &mut [u8; 248], selected: u8, k: CgbConsoleState)
     ensures { out.new ≡ sets out.old 80 (bank_bytes selected k) }
 {
@@ -91,7 +93,7 @@ pub(crate) fn put_bank(out: &mut [u8; 248], selected: u8, k: CgbConsoleState)
 }
 
 // The console's own numbers and flags.
-#[derive(Drop)]
+#[derive(Clone, Copy)]
 pub(crate) struct Registers {
     pub svbk: u8,
     pub key1_armed: bool,
@@ -105,6 +107,7 @@ pub(crate) struct Registers {
     pub ff75: u8,
 }
 
+#[tactic(auto, unfolding(crate::specs::Codec::state_of))]
 pub(crate) fn registers_of(b: &[u8; 248]) -> Registers
     ensures { result ≡ registers_of (state_of b.now) }
 {
@@ -138,6 +141,7 @@ pub(crate) fn extra_of(b: &[u8; 248]) -> [u8; 24]
     extra
 }
 
+#[tactic(auto, unfolding(crate::specs::Rest::console_of))]
 pub(crate) fn console_of(b: &[u8; 248]) -> CgbConsoleState
     ensures { result ≡ console_of b.now }
 {

@@ -1,5 +1,7 @@
 // The console's state, as far as this port goes (lib.rs, `Cgb`; console_state.rs; vram.rs). docs/MANUAL.md says of each field what
 // sets it and what looks at it.
+#![tactic(auto)]
+
 pub mod object;
 pub mod power_on;
 pub mod refusal;
@@ -9,14 +11,14 @@ use crate::object::ObjectDma;
 use vram_dma::VramDma;
 
 // The wake intake's countdown, `Option<u8>` in the Rust: no wake in flight, or the M-cycle boundaries left of it.
-#[derive(Drop)]
+#[derive(Clone, Copy)]
 pub enum WakeLatency {
     None,
     Some(u8),
 }
 
 // The claim of the last commit (missingno_gb, `VramDmaClaim`); both flags are false until the first.
-#[derive(Drop)]
+#[derive(Clone, Copy)]
 pub struct VramDmaClaim {
     // A block has committed.
     pub committed: bool,
@@ -25,7 +27,7 @@ pub struct VramDmaClaim {
 }
 
 // Console-level state. Hold and suspension are inputs of the calls that look at them.
-#[derive(Drop)]
+#[derive(Clone, Copy)]
 pub struct CgbConsoleState {
     // The master edge of the last switch: where the count of its blackout begins. No call looks at it.
     pub blackout_anchor: u64,
@@ -34,13 +36,13 @@ pub struct CgbConsoleState {
 }
 
 // The bank that VBK (FF4F) selects; the banks themselves are lent memory.
-#[derive(Drop)]
+#[derive(Clone, Copy)]
 pub struct CgbVram {
     // VBK (FF4F) bit 0.
     pub selected: u8,
 }
 
-#[derive(Drop)]
+#[derive(Clone, Copy)]
 pub struct Cgb {
     // SVBK (FF70) bits 0 to 2 as written; 0 selects bank 1.
     pub svbk: u8,

@@ -59,6 +59,7 @@ fn arb_at_rest() -> HaltArbiter
     }
 }
 
+#[tactic(auto, unfolding(crate::specs::PowerOn::dma_at_rest))]
 fn dma_at_rest() -> VramDma
     ensures { result ≡ dma_at_rest }
 {
@@ -77,6 +78,7 @@ fn dma_at_rest() -> VramDma
 }
 
 // WRAM is lent, so its power-on pattern is the caller's.
+#[tactic(auto, unfolding(crate::specs::PowerOn::power_on_of))]
 pub fn power_on(dmg_compat: bool) -> Cgb
     ensures { result ≡ power_on_of dmg_compat }
 {

@@ -6,7 +6,7 @@ ghost use Rattle.console.specs.Modes.{is_idle, is_general, is_hblank};
 use countdown::Countdown;
 
 // How the active transfer is paced: General holds the CPU and flows; HBlank, "armed", moves a block of 16 bytes in an HBlank.
-#[derive(Drop)]
+#[derive(Clone, Copy)]
 pub enum TransferMode {
     Idle,
     General,
@@ -53,7 +53,7 @@ pub fn pick_mode(c: bool, a: TransferMode, b: TransferMode) -> TransferMode
 }
 
 // The running byte engine. The pointers persist after a transfer: the next one goes on where they stand.
-#[derive(Drop)]
+#[derive(Clone, Copy)]
 pub struct TransferCursor {
     // Where the next byte is read: the running register of FF51 and FF52.
     pub source: u16,
@@ -70,7 +70,7 @@ pub struct TransferCursor {
 }
 
 // The 16-byte block of one HBlank, and its bus tenure.
-#[derive(Drop)]
+#[derive(Clone, Copy)]
 pub struct HblankBlock {
     // Bytes left in the latched block: "block". 0 is none.
     pub remaining: u8,
@@ -92,7 +92,7 @@ pub struct HblankBlock {
 
 // The pend and grant arbiter of HBlank blocks, across HALT and wake. `pend_from_arm` and `pend_granted` are marks on a pend, not
 // kinds of it: both may stand, and `pend_granted` may outlive the pend.
-#[derive(Drop)]
+#[derive(Clone, Copy)]
 pub struct HaltArbiter {
     // A block is asked for: the next ungated fall commits it, asks anew or drops it.
     pub pend: bool,
@@ -127,7 +127,7 @@ pub struct HaltArbiter {
 }
 
 // The shared bus of OAM DMA and VRAM DMA.
-#[derive(Drop)]
+#[derive(Clone, Copy)]
 pub struct OamContention {
     // OAM DMA drove a byte at the last arbitration: the M-cycle in which it ends still shares the bus.
     pub was_transferring: bool,
@@ -135,7 +135,7 @@ pub struct OamContention {
     pub contended: bool,
 }
 
-#[derive(Drop)]
+#[derive(Clone, Copy)]
 pub struct VramDma {
     // Pointers, mode, what is left.
     pub cursor: TransferCursor,

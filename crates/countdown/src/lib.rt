@@ -1,15 +1,17 @@
 // The one-shot down-counter of the engine (vram_dma.rs, `Countdown`).
+#![tactic(auto)]
+
 ghost use Rattle.std.specs.Prelude.{◌≡◌};
 ghost use Rattle.countdown.specs.Countdown.{armed, cleared, active_of, remaining_of, ticked, expired_of};
 
 use arithmetic::step::less_one;
 
 // Armed to a tick count, stepped toward zero, then inert.
-#[derive(Drop)]
+#[derive(Clone, Copy)]
 pub struct Countdown(pub u8);
 
 // The countdown after a step, with the flag of the step.
-#[derive(Drop)]
+#[derive(Clone, Copy)]
 pub struct Ticked {
     pub next: Countdown,
     pub flag: bool,

@@ -1,5 +1,7 @@
 // What a switch makes of the engine (speed_switch.rs, `attempt_speed_switch`): upward a latched block is cut or
 // discarded, downward the engine stays as it is.
+#![tactic(auto)]
+
 ghost use Rattle.std.specs.Prelude.{◌≡◌};
 ghost use Rattle.cut.specs.Cut.{ready_block, outcome_of, ungranted, cut_of, discarded_of, graded_of, upward_of, engine_after};
 
@@ -7,7 +9,7 @@ use arithmetic::step::less_one;
 use console::vram_dma::{TransferMode, VramDma};
 
 // What became of a latched block.
-#[derive(Drop)]
+#[derive(Clone, Copy)]
 pub enum SwitchOutcome {
     None,
     Discarded,
@@ -15,6 +17,7 @@ pub enum SwitchOutcome {
 }
 
 // A latched block that claims the bus.
+#[tactic(auto, unfolding(crate::specs::Cut::ready_block))]
 pub fn ready_block(d: VramDma) -> bool
     ensures { result ≡ ready_block d }
 {
@@ -22,6 +25,7 @@ pub fn ready_block(d: VramDma) -> bool
     (d.block.remaining > 0) & !waiting
 }
 
+#[tactic(auto, unfolding(crate::specs::Cut::outcome_of))]
 pub fn outcome(d: VramDma, up: bool) -> SwitchOutcome
     ensures { result ≡ outcome_of up d }
 {
@@ -36,6 +40,7 @@ pub fn outcome(d: VramDma, up: bool) -> SwitchOutcome
 }
 
 // Either way the block's FF55 count is revoked.
+#[tactic(auto, unfolding(crate::specs::Cut::ungranted))]
 fn ungrant(mut d: VramDma) -> VramDma
     ensures { result ≡ ungranted d }
 {
@@ -46,6 +51,7 @@ fn ungrant(mut d: VramDma) -> VramDma
 }
 
 // A ready block is cut: the byte in flight completes outside the length.
+#[tactic(auto, unfolding(crate::specs::Cut::cut_of))]
 fn cut(mut d: VramDma) -> VramDma
     ensures { result ≡ cut_of d }
 {
@@ -57,6 +63,7 @@ fn cut(mut d: VramDma) -> VramDma
     d
 }
 
+#[tactic(auto, unfolding(crate::specs::Cut::discarded_of))]
 fn discard(mut d: VramDma) -> VramDma
     ensures { result ≡ discarded_of d }
 {
@@ -68,6 +75,7 @@ fn discard(mut d: VramDma) -> VramDma
     d
 }
 
+#[tactic(auto, unfolding(crate::specs::Cut::graded_of))]
 fn grade(d: VramDma) -> VramDma
     ensures { result ≡ graded_of d }
 {
@@ -82,6 +90,7 @@ fn grade(d: VramDma) -> VramDma
 }
 
 // Upward: the block is graded, the pend drops and the blind of 6 is armed.
+#[tactic(auto, unfolding(crate::specs::Cut::upward_of))]
 fn upward(d: VramDma) -> VramDma
     ensures { result ≡ upward_of d }
 {
@@ -92,6 +101,7 @@ fn upward(d: VramDma) -> VramDma
     graded
 }
 
+#[tactic(auto, unfolding(crate::specs::Cut::engine_after))]
 pub fn engine_after(d: VramDma, up: bool) -> VramDma
     ensures { result ≡ engine_after up d }
 {

@@ -1,10 +1,13 @@
 // What the engine is told (vram_dma.rs, `vram_dma_on_lcd_disabled`; lib.rs, `vram_dma_instruction_retired`): the LCD goes
 // off, an instruction has retired. With the LCD off no HBlank will come, so one block is served at once.
+#![tactic(auto)]
+
 ghost use Rattle.std.specs.Prelude.{◌≡◌};
 ghost use Rattle.transfer.specs.Latch.{latched_block, latched_of, unclaimed, latches_dark, lcd_disabled_of, retired_of};
 
 use console::vram_dma::{HblankBlock, VramDma};
 
+#[tactic(auto, unfolding(transfer::specs::Latch::latched_block))]
 fn latched_block(b: HblankBlock) -> HblankBlock
     ensures { result ≡ latched_block b }
 {
@@ -16,6 +19,7 @@ fn latched_block(b: HblankBlock) -> HblankBlock
 }
 
 // With the LCD off no HBlank will come, so one block is served at once.
+#[tactic(auto, unfolding(transfer::specs::Latch::latched_of))]
 pub fn latch_block(mut d: VramDma) -> VramDma
     ensures { result ≡ latched_of d }
 {
@@ -34,6 +38,7 @@ fn drop_idle_claim(mut d: VramDma) -> VramDma
 }
 
 // An armed transfer with bytes left, none taken in this HBlank and no block standing.
+#[tactic(auto, unfolding(transfer::specs::Latch::latches_dark))]
 fn latches_dark(d: VramDma) -> bool
     ensures { result ≡ latches_dark d }
 {
@@ -44,6 +49,7 @@ fn latches_dark(d: VramDma) -> bool
 }
 
 // The LCD goes off: the idle claim drops, and an armed transfer that waits is served one block.
+#[tactic(auto, unfolding(transfer::specs::Latch::lcd_disabled_of))]
 pub fn on_lcd_disabled(d: VramDma) -> VramDma
     ensures { result ≡ lcd_disabled_of d }
 {

@@ -1,5 +1,7 @@
 // What is asked of the engine and changes nothing (vram_dma.rs, `impl VramDma`, and
 // `vram_dma_write_conflict_source`).
+#![tactic(auto)]
+
 ghost use Rattle.std.specs.Prelude.{◌≡◌};
 ghost use Rattle.transfer.specs.Questions.{status_of, request_standing, holds_cpu, seizes_bus};
 ghost use Rattle.transfer.specs.Conflict.{will_move, conflicts, conflict_of};
@@ -7,6 +9,7 @@ ghost use Rattle.transfer.specs.Conflict.{will_move, conflicts, conflict_of};
 use console::vram_dma::{TransferMode, VramDma};
 use transfer::{Conflict, VramDmaStatus};
 
+#[tactic(auto, unfolding(transfer::specs::Questions::status_of))]
 pub fn status(d: VramDma) -> VramDmaStatus
     ensures { result ≡ status_of d }
 {
@@ -34,6 +37,7 @@ pub fn request_standing(d: VramDma) -> bool
     d.arb.pend | ((d.block.remaining > 0) & (d.cursor.remaining > 0))
 }
 
+#[tactic(auto, unfolding(transfer::specs::Questions::holds_cpu))]
 pub fn holds_cpu(d: VramDma) -> bool
     ensures { result ≡ holds_cpu d }
 {
@@ -42,6 +46,7 @@ pub fn holds_cpu(d: VramDma) -> bool
     mode.is_general() & (c.remaining > 0)
 }
 
+#[tactic(auto, unfolding(transfer::specs::Questions::seizes_bus))]
 pub fn seizes_bus(d: VramDma) -> bool
     ensures { result ≡ seizes_bus d }
 {
@@ -51,6 +56,7 @@ pub fn seizes_bus(d: VramDma) -> bool
 }
 
 // A byte moves at the next bus call: no set-up cell stands, quota is there and the engine moves.
+#[tactic(auto, unfolding(transfer::specs::Conflict::will_move))]
 pub fn will_move(d: VramDma) -> bool
     ensures { result ≡ will_move d }
 {
@@ -60,6 +66,7 @@ pub fn will_move(d: VramDma) -> bool
 }
 
 // Double speed only, and once the seizure has settled for one fall.
+#[tactic(auto, unfolding(transfer::specs::Conflict::conflicts))]
 fn conflicts(d: VramDma, double_speed: bool, address: u16) -> bool
     ensures { result ≡ conflicts double_speed address d }
 {
@@ -71,6 +78,7 @@ fn conflicts(d: VramDma, double_speed: bool, address: u16) -> bool
         & (address == next)
 }
 
+#[tactic(auto, unfolding(transfer::specs::Conflict::conflict_of))]
 pub fn write_conflict_source(d: VramDma, double_speed: bool, address: u16) -> Conflict
     ensures { result ≡ conflict_of double_speed address d }
 {

@@ -1,6 +1,7 @@
 // The engine's door: power-on and every call of document 01, in the paper's order, then those of document 02, each passed on from the crate that is about it.
 // Code above names the calls, their inputs and their answers by this crate alone. A call that takes a state tests 7 and its own
 // refusals in the paper's order, and hands back what it was given where it declines.
+#![tactic(auto)]
 
 // Section 1. The state that a run starts from, with or without DMG compatibility.
 pub use console::power_on::power_on;

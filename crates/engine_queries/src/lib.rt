@@ -1,11 +1,14 @@
 // What is asked of the engine and changes nothing (lib.rs, the queries of `Cgb` and `Model`; the tally is document 01's own).
 // Each tests 7.
+#![tactic(auto)]
+
 ghost use Rattle.answers.specs.Queries.{AnswersFlag};
 ghost use Rattle.engine_queries.specs.Queries.{AnswersTally, AnswersStatus, AnswersClaim, park_waits, request_stands, cpu_held, bus_seized};
 
 use answers::{ClaimAnswer, FlagAnswer, StatusAnswer, TallyAnswer};
 use console::{Cgb, refusal};
 
+#[tactic(auto, unfolding(crate::specs::Queries::tally_call_of))]
 pub fn tally(state: Cgb) -> TallyAnswer
     ensures { AnswersTally state result }
 {
@@ -21,6 +24,7 @@ pub fn tally(state: Cgb) -> TallyAnswer
     }
 }
 
+#[tactic(auto, unfolding(crate::specs::Queries::status_call_of))]
 pub fn vram_dma_status(state: Cgb) -> StatusAnswer
     ensures { AnswersStatus state result }
 {
@@ -33,6 +37,7 @@ pub fn vram_dma_status(state: Cgb) -> StatusAnswer
 }
 
 // The claim of the last commit.
+#[tactic(auto, unfolding(crate::specs::Queries::claim_call_of))]
 pub fn vram_dma_claim(state: Cgb) -> ClaimAnswer
     ensures { AnswersClaim state result }
 {

@@ -1,4 +1,6 @@
 // How long a General transfer takes (document 02, A5). It takes no state, so it is no call of H.
+#![tactic(auto)]
+
 ghost use Rattle.std.specs.Prelude.{◌≡◌};
 ghost use Rattle.estimate.specs.Estimate.{estimate_of};
 ghost use Rattle.estimate.specs.Counted.{Counted};
@@ -6,7 +8,7 @@ ghost use Rattle.estimate.specs.Counted.{Counted};
 use arithmetic::pick::pick16;
 use arithmetic::step::wide;
 
-#[derive(Drop)]
+#[derive(Clone, Copy)]
 pub struct TransferTime {
     pub bytes: u16,
     pub m_cycles: u16,
@@ -27,6 +29,7 @@ fn bytes(value: u8, destination: u16) -> u16
 
 // From the value for FF55, of which bit 7 counts for nothing, and the destination register as it stands in
 // front of that write, not the address in VRAM.
+#[tactic(auto, unfolding(crate::specs::Estimate::estimate_of))]
 pub fn estimate(value: u8, destination: u16, double_speed: bool) -> TransferTime
     ensures { result ≡ estimate_of value destination double_speed }
 {

@@ -1,5 +1,7 @@
 // The fall (vram_dma.rs, `vram_dma_fall_edge`). It returns at one place, so that the console around the engine is made anew
 // once for every outcome.
+#![tactic(auto)]
+
 ghost use Rattle.std.specs.Prelude.{◌≡◌, cond};
 ghost use Rattle.fall_stages.specs.Fall.{fall_of, refused_of};
 ghost use Rattle.answers.specs.Answers.{Answers, claim_answer, fell_says};
@@ -12,7 +14,7 @@ use console::{Cgb, VramDmaClaim, refusal};
 use fall_edge::{FallInput, Fallen};
 
 // The refusal, or 0; declined, the engine is the one given and there is no claim.
-#[derive(Drop)]
+#[derive(Clone, Copy)]
 struct Judged {
     number: u8,
     fallen: Fallen,
@@ -67,6 +69,7 @@ fn pick_claim(c: bool, a: VramDmaClaim, b: VramDmaClaim) -> VramDmaClaim
 }
 
 // The console keeps a commit's claim until the next one.
+#[tactic(auto, unfolding(crate::specs::Fall::fallen_state))]
 fn fallen_state(state: Cgb, fallen: Fallen) -> Cgb
     ensures { result ≡ fallen_state fallen state }
 {
@@ -93,6 +96,7 @@ fn answer(number: u8, claim: VramDmaClaim) -> ClaimAnswer
     ClaimAnswer::Refused(number)
 }
 
+#[tactic(auto, unfolding(crate::specs::Fall::fall_refusal))]
 pub fn vram_dma_fall_edge(state: Cgb, input: FallInput) -> Fell
     ensures { Answers fell_says (fall_call_of state input) (fall_said state input) result }
 {

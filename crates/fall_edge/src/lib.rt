@@ -1,4 +1,6 @@
 // The fall (vram_dma.rs, `vram_dma_fall_edge`): one evaluation on a falling dot clock edge, in document 01's steps.
+#![tactic(auto)]
+
 ghost use Rattle.std.specs.Prelude.{◌≡◌};
 ghost use Rattle.fall_stages.specs.Fall.{still_of, settled_of, ran_of, fall_of};
 ghost use Rattle.fall_stages.specs.QuietFall.{quiet_of};
@@ -31,6 +33,7 @@ fn quiet(d: VramDma, input: FallInput) -> bool
     ((c.remaining == 0) | !wants) & still & !input.halted & !input.stopped
 }
 
+#[tactic(auto, unfolding(fall_stages::specs::Fall::settled_of))]
 fn settle_inert(d: VramDma, in_hblank: bool) -> VramDma
     ensures { result ≡ settled_of in_hblank d }
 {
@@ -43,6 +46,7 @@ fn settle_inert(d: VramDma, in_hblank: bool) -> VramDma
     )
 }
 
+#[tactic(auto, unfolding(fall_stages::specs::Fall::ran_of))]
 fn run(d: VramDma, v: View, gated: bool) -> Fallen
     ensures { result ≡ ran_of gated v d }
 {

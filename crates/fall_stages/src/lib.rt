@@ -1,10 +1,12 @@
 // What a fall is given, what its stages see and what it leaves; the fall itself is defined in specs/Fall.antt. No code: the laws of
 // the fall are shown here of the definitions alone.
+#![tactic(auto)]
+
 use console::VramDmaClaim;
 use console::vram_dma::VramDma;
 
 // What a fall is given.
-#[derive(Drop)]
+#[derive(Clone, Copy)]
 pub struct FallInput {
     // 0 to 3; 0 is HBlank.
     pub mode: u8,
@@ -17,7 +19,7 @@ pub struct FallInput {
 }
 
 // What every stage of one fall sees.
-#[derive(Drop)]
+#[derive(Clone, Copy)]
 pub struct View {
     pub in_hblank: bool,
     // Mode 0 now and not at the previous fall: document 01's "entry".
@@ -34,7 +36,7 @@ pub struct View {
 
 // A fall's outcome: refused where an uncounted commit would raise granted from 255; the claim has both
 // flags false where nothing committed.
-#[derive(Drop)]
+#[derive(Clone, Copy)]
 pub struct Fallen {
     pub refused: bool,
     pub claim: VramDmaClaim,

@@ -1,4 +1,6 @@
 // The arbiter's part of each stage.
+#![tactic(auto)]
+
 ghost use Rattle.std.specs.Prelude.{◌≡◌, ◌&&◌};
 ghost use Rattle.fall_stages.specs.Fall.{still_arb, settled_arb, halted_falls_of, wake_blind_of, observed_arb, ungranted_arb, halt_latch_arb};
 ghost use Rattle.fall_stages.specs.Fall.{aged_arb, pended_arb, grants, granted_arb, blinded, blinds_arb, drives, tenure_if, commit_arb};
@@ -11,7 +13,7 @@ use fall_stages::View;
 
 // The arbiter after its blinds or its tenure ticked. Passed over: an entry fell into one of them, and this HBlank is
 // taken without service.
-#[derive(Drop)]
+#[derive(Clone, Copy)]
 pub struct ArbTicked {
     pub arb: HaltArbiter,
     pub passed_over: bool,
@@ -49,6 +51,7 @@ fn wake_blind(woke: bool, blind: Countdown) -> Countdown
     if woke { blind.arm(3) } else { blind }
 }
 
+#[tactic(auto, unfolding(fall_stages::specs::Fall::observed_arb))]
 pub fn observe(a: HaltArbiter, v: View) -> HaltArbiter
     ensures { result ≡ observed_arb v a }
 {
@@ -60,6 +63,7 @@ pub fn observe(a: HaltArbiter, v: View) -> HaltArbiter
 }
 
 // A reverted launch is not granted after all.
+#[tactic(auto, unfolding(fall_stages::specs::Fall::ungranted_arb))]
 pub fn ungrant(a: HaltArbiter, back: bool) -> HaltArbiter
     ensures { result ≡ ungranted_arb back a }
 {
@@ -67,6 +71,7 @@ pub fn ungrant(a: HaltArbiter, back: bool) -> HaltArbiter
     rebuild::with_arb_granted_ahead(a, granted)
 }
 
+#[tactic(auto, unfolding(fall_stages::specs::Fall::halt_latch_arb))]
 pub fn join_halt(a: HaltArbiter, halted: bool, joins: bool) -> HaltArbiter
     ensures { result ≡ halt_latch_arb halted joins a }
 {
@@ -81,6 +86,7 @@ pub fn join_halt(a: HaltArbiter, halted: bool, joins: bool) -> HaltArbiter
 }
 
 // A standing pend ages in the halt.
+#[tactic(auto, unfolding(fall_stages::specs::Fall::aged_arb))]
 fn age(a: HaltArbiter) -> HaltArbiter
     ensures { result ≡ aged_arb a }
 {
@@ -88,6 +94,7 @@ fn age(a: HaltArbiter) -> HaltArbiter
     rebuild::with_arb_pend_age(a, age)
 }
 
+#[tactic(auto, unfolding(fall_stages::specs::Fall::pended_arb))]
 fn pend_if(a: HaltArbiter, pends: bool) -> HaltArbiter
     ensures { result ≡ pended_arb pends a }
 {
@@ -99,6 +106,7 @@ fn pend_if(a: HaltArbiter, pends: bool) -> HaltArbiter
     a
 }
 
+#[tactic(auto, unfolding(fall_stages::specs::Fall::grants))]
 fn grants(a: HaltArbiter, v: View, blocks: u16) -> bool
     ensures { result ≡ grants v blocks a }
 {
@@ -106,6 +114,7 @@ fn grants(a: HaltArbiter, v: View, blocks: u16) -> bool
     v.cpu_halted & v.entry_edge & v.armed & (a.halted_falls <= 2) & (blocks > granted)
 }
 
+#[tactic(auto, unfolding(fall_stages::specs::Fall::granted_arb))]
 fn grant_if(a: HaltArbiter, grants: bool) -> HaltArbiter
     ensures { result ≡ granted_arb grants a }
 {
@@ -124,6 +133,7 @@ pub fn in_halt(a: HaltArbiter, v: View, pends: bool, blocks: u16) -> HaltArbiter
 }
 
 // Both blinds tick. The first tick of the blind of 6, which a switch arms, passes nothing over.
+#[tactic(auto, unfolding(fall_stages::specs::Fall::blinds_arb))]
 pub fn step_blinds(a: HaltArbiter, v: View) -> ArbTicked
     ensures { result ≡ record { arb = blinds_arb a; passed_over = blinded v a } }
 {
@@ -151,6 +161,7 @@ fn tenure_if(driven: bool, tenure: Countdown) -> Countdown
     if driven { tenure.arm(36) } else { tenure }
 }
 
+#[tactic(auto, unfolding(fall_stages::specs::Fall::commit_arb))]
 pub fn commit(a: HaltArbiter, v: View, committing: bool) -> HaltArbiter
     ensures { result ≡ commit_arb committing v a }
 {
@@ -170,6 +181,7 @@ pub fn commit(a: HaltArbiter, v: View, committing: bool) -> HaltArbiter
 }
 
 // The tenure ticks; an entry that it passes over claims where bytes are left.
+#[tactic(auto, unfolding(fall_stages::specs::Fall::tenure_arb))]
 pub fn step_tenure(a: HaltArbiter, v: View, bytes_left: bool) -> ArbTicked
     ensures { result ≡ record { arb = tenure_arb (consumes v a && bytes_left) a; passed_over = consumes v a } }
 {
@@ -183,6 +195,7 @@ pub fn step_tenure(a: HaltArbiter, v: View, bytes_left: bool) -> ArbTicked
     }
 }
 
+#[tactic(auto, unfolding(fall_stages::specs::Fall::pend_arb))]
 pub fn renew_pend(a: HaltArbiter, pends: bool) -> HaltArbiter
     ensures { result ≡ pend_arb pends a }
 {

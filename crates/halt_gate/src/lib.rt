@@ -1,5 +1,7 @@
 // Steps 2 to 5 of a fall: what it sees, what is done gated or not (halted falls, taken, the wake, probation, the halt latch), and
 // the gate. Each stage makes anew only the part that it touches.
+#![tactic(auto)]
+
 ghost use Rattle.std.specs.Prelude.{◌≡◌};
 ghost use Rattle.fall_stages.specs.Fall.{gates, view_of, observed_of, probation_of, halt_latch_of, started_of, refilled_of, gated_of};
 
@@ -13,6 +15,7 @@ pub fn gates(i: FallInput) -> bool
     (i.halted & !i.irq_latched) | i.stopped
 }
 
+#[tactic(auto, unfolding(fall_stages::specs::Fall::view_of))]
 pub fn view(i: FallInput, d: VramDma, double_speed: bool) -> View
     ensures { result ≡ view_of i double_speed d }
 {
@@ -33,6 +36,7 @@ pub fn view(i: FallInput, d: VramDma, double_speed: bool) -> View
 }
 
 // The view, the halted falls, the taken-clear and a wake's blind.
+#[tactic(auto, unfolding(fall_stages::specs::Fall::observed_of))]
 fn observe(d: VramDma, v: View) -> VramDma
     ensures { result ≡ observed_of v d }
 {
@@ -43,6 +47,7 @@ fn observe(d: VramDma, v: View) -> VramDma
 }
 
 // A launch that readied outside mode 0 reverts.
+#[tactic(auto, unfolding(fall_stages::specs::Fall::probation_of))]
 fn judge_probation(d: VramDma, v: View) -> VramDma
     ensures { result ≡ probation_of v d }
 {
@@ -53,6 +58,7 @@ fn judge_probation(d: VramDma, v: View) -> VramDma
 }
 
 // A block not yet ready at the halt latch becomes a granted pend.
+#[tactic(auto, unfolding(fall_stages::specs::Fall::halt_latch_of))]
 fn join_halt(d: VramDma, v: View) -> VramDma
     ensures { result ≡ halt_latch_of v d }
 {
@@ -63,12 +69,14 @@ fn join_halt(d: VramDma, v: View) -> VramDma
 }
 
 // Steps 3 and 4: what is done gated or not.
+#[tactic(auto, unfolding(fall_stages::specs::Fall::started_of))]
 pub fn start(d: VramDma, v: View) -> VramDma
     ensures { result ≡ started_of v d }
 {
     join_halt(judge_probation(observe(d, v), v), v)
 }
 
+#[tactic(auto, unfolding(fall_stages::specs::Fall::refilled_of))]
 pub fn refill(d: VramDma, double_speed: bool) -> VramDma
     ensures { result ≡ refilled_of double_speed d }
 {
@@ -78,6 +86,7 @@ pub fn refill(d: VramDma, double_speed: bool) -> VramDma
 }
 
 // Step 5: a pend ages, and an entry in the halt pends or grants.
+#[tactic(auto, unfolding(fall_stages::specs::Fall::gated_of))]
 pub fn gate(d: VramDma, v: View) -> VramDma
     ensures { result ≡ gated_of v d }
 {

@@ -1,4 +1,6 @@
 // The block's part of each stage.
+#![tactic(auto)]
+
 ghost use Rattle.std.specs.Prelude.{◌≡◌};
 ghost use Rattle.fall_stages.specs.Fall.{still_block, settled_block, taken_clears, kept_taken, reverts, judged_block, joins_halt, dropped_block};
 ghost use Rattle.fall_stages.specs.Fall.{taken_if, precharged, armed_unless, commit_block, readied_block, seizure_count, seized_block};
@@ -42,6 +44,7 @@ pub fn reverts(b: HblankBlock, v: View) -> bool
     b.arm_ready_probation & !v.in_hblank & b.from_arm & (b.remaining == 16)
 }
 
+#[tactic(auto, unfolding(fall_stages::specs::Fall::judged_block))]
 pub fn judge(b: HblankBlock, back: bool) -> HblankBlock
     ensures { result ≡ judged_block back b }
 {
@@ -57,6 +60,7 @@ pub fn joins_halt(b: HblankBlock, v: View) -> bool
     v.cpu_halted & !v.was_halted & (b.remaining == 16) & b.ready_in.active()
 }
 
+#[tactic(auto, unfolding(fall_stages::specs::Fall::dropped_block))]
 pub fn drop_if(b: HblankBlock, joins: bool) -> HblankBlock
     ensures { result ≡ dropped_block joins b }
 {
@@ -90,6 +94,7 @@ fn armed_unless(none: bool, ticks: u8) -> Countdown
     Countdown(0).arm(n)
 }
 
+#[tactic(auto, unfolding(fall_stages::specs::Fall::commit_block))]
 pub fn commit(b: HblankBlock, v: View, a: HaltArbiter, committing: bool) -> HblankBlock
     ensures { result ≡ commit_block committing v a b }
 {
@@ -107,6 +112,7 @@ pub fn commit(b: HblankBlock, v: View, a: HaltArbiter, committing: bool) -> Hbla
     b
 }
 
+#[tactic(auto, unfolding(fall_stages::specs::Fall::readied_block))]
 pub fn step_readiness(b: HblankBlock, double_speed: bool) -> HblankBlock
     ensures { result ≡ readied_block double_speed b }
 {
@@ -122,6 +128,7 @@ fn seizure_count(seizes: bool, n: u8) -> u8
     if seizes { saturating_inc(n) } else { 0 }
 }
 
+#[tactic(auto, unfolding(fall_stages::specs::Fall::seized_block))]
 pub fn count_seizure(b: HblankBlock, seizes: bool) -> HblankBlock
     ensures { result ≡ seized_block seizes b }
 {

@@ -7,6 +7,7 @@ use arithmetic::step::{saturating_sub16, wide};
 use console::vram_dma::{HaltArbiter, TransferCursor, TransferMode, VramDma};
 
 // From bit 7 down: the active bit, 0 while armed with a block to show; then the remaining length, 127 where no block shows.
+#[tactic(auto, unfolding(crate::specs::Hdma5::status_byte))]
 pub fn status_byte(d: VramDma) -> u8
     ensures { result ≡ status_byte d }
 {
@@ -37,6 +38,7 @@ fn pace(c: TransferCursor, mode: TransferMode, length: u16) -> TransferCursor
 }
 
 // Bit 7 set: a block with each HBlank. With the LCD off none will come, and one block is latched now.
+#[tactic(auto, unfolding(crate::specs::Hdma5::armed_of))]
 fn arm(mut d: VramDma, length: u16, lcd_on: bool) -> VramDma
     ensures { result ≡ armed_of length lcd_on d }
 {
@@ -51,6 +53,7 @@ fn arm(mut d: VramDma, length: u16, lcd_on: bool) -> VramDma
 }
 
 // Bit 7 clear while armed: only the arming ends. A latched block stays.
+#[tactic(auto, unfolding(crate::specs::Hdma5::cancelled_of))]
 fn cancel(mut d: VramDma, length: u16) -> VramDma
     ensures { result ≡ cancelled_of length d }
 {
@@ -61,6 +64,7 @@ fn cancel(mut d: VramDma, length: u16) -> VramDma
 }
 
 // Bit 7 clear otherwise: the whole length at once.
+#[tactic(auto, unfolding(crate::specs::Hdma5::general_started))]
 fn start_general(mut d: VramDma, length: u16) -> VramDma
     ensures { result ≡ general_started length d }
 {
@@ -70,6 +74,7 @@ fn start_general(mut d: VramDma, length: u16) -> VramDma
     d
 }
 
+#[tactic(auto, unfolding(crate::specs::Hdma5::hdma5_written))]
 pub fn write_hdma5(mut d: VramDma, value: u8, lcd_on: bool) -> VramDma
     ensures { result ≡ hdma5_written value lcd_on d }
 {

@@ -1,6 +1,8 @@
 // judge SCRIPT LOG: whether a board's log of a replay script is the engine's own (document 02, A2). It prints one line: yes, the
 // number of the first record that is not the engine's, or "refused 22". Both files pass once, in step, through buffers of fixed
 // size. The answer waits until both have ended, or one has and more of the other comes, since 22 comes before any record.
+#![tactic(auto)]
+
 ghost use Rattle.std.specs.Prelude.{◌-◌, ◌<◌, ◌≤◌, ◌≡◌, length};
 ghost use Rattle.judge.specs.Turn.{in_buffer, Turns};
 
@@ -11,14 +13,14 @@ use libc::STDOUT_FILENO;
 use log_parts::judge_part;
 
 // The bytes of a file that wait in its buffer, from one place up to another.
-#[derive(Drop)]
+#[derive(Clone, Copy)]
 struct Waiting {
     from: usize,
     stop: usize,
 }
 
 // After a turn: the judge, what waits of each file, how many turns may still come, and whether a file could not be read.
-#[derive(Drop)]
+#[derive(Clone, Copy)]
 struct Turned {
     judge: Judge,
     script: Waiting,

@@ -28,6 +28,7 @@ fn judge_record(j: Judge, script: &[u8], log: &[u8], wram: &mut [u8]) -> Judge
 }
 
 // What comes next of script and log: every record that is whole in both is judged. The rest is to be shown again.
+#[tactic(auto, unfolding(board_log::specs::Judging::judged_part, board_log::specs::Records::whole_in_both))]
 pub fn feed(j: Judge, script: &[u8], log: &[u8], wram: &mut [u8]) -> Fed
     ensures { Feeds j wram.old script.now log.now result wram.new }
 {

@@ -8,6 +8,7 @@ use console::Cgb;
 use replay_step::{read, step};
 
 // The log of what comes next of a script, from the front of `out` on: of as many records as are whole there and have room here.
+#[tactic(auto, unfolding(board_log::specs::Records::whole_in_both))]
 pub fn put_log(state: Cgb, script: &[u8], out: &mut [u8], wram: &mut [u8]) -> Logged
     ensures { Logs state wram.old script.now out.old result wram.new out.new }
 {

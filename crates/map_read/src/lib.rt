@@ -1,4 +1,6 @@
 // Reads of the address map (registers.rs, `map_read_byte`): a choice by address.
+#![tactic(auto)]
+
 ghost use Rattle.std.specs.Prelude.{◌≡◌};
 ghost use Rattle.map_read.specs.Read.{key1_byte, register_read_of, map_read_of};
 
@@ -10,7 +12,7 @@ use registers::extra_oam::extra_oam_byte;
 use registers::{WramIndex, wram_index};
 
 // What stands at an address: `Option<u8>` in the Rust.
-#[derive(Drop)]
+#[derive(Clone, Copy)]
 pub enum MapRead {
     Byte(u8),
     Unmapped,
@@ -26,6 +28,7 @@ fn key1_byte(double_speed: bool, armed: bool) -> u8
 }
 
 // A read where work RAM does not answer.
+#[tactic(auto, unfolding(crate::specs::Read::register_read_of, crate::specs::Read::map_read_of, registers::specs::Map::place_of))]
 fn register_read(s: Cgb, address: u16) -> MapRead
     ensures { result ≡ register_read_of s address }
 {

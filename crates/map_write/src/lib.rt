@@ -1,4 +1,6 @@
 // Writes of the address map (registers.rs, `map_write_byte`): a choice by address.
+#![tactic(auto)]
+
 ghost use Rattle.std.specs.Prelude.{◌≡◌};
 ghost use Rattle.map_write.specs.Write.{register_stored_of, register_write_of, map_write_of, wram_after, Wrote};
 
@@ -9,7 +11,7 @@ use registers::extra_oam::extra_oam_with;
 use registers::{WramIndex, compat_locks, wram_index};
 
 // What a write is given beside the address.
-#[derive(Drop)]
+#[derive(Clone, Copy)]
 pub struct WriteInput {
     pub value: u8,
     // FF55 alone looks at it.
@@ -19,13 +21,14 @@ pub struct WriteInput {
 }
 
 // Whether the address is in the map, and the state after the write.
-#[derive(Drop)]
+#[derive(Clone, Copy)]
 pub struct MapWritten {
     pub mapped: bool,
     pub state: Cgb,
 }
 
 // A write where work RAM does not answer and nothing is locked.
+#[tactic(auto, unfolding(crate::specs::Write::register_stored_of, crate::specs::Write::stored_of, registers::specs::Map::place_of))]
 fn store_register(mut s: Cgb, address: u16, input: WriteInput) -> MapWritten
     ensures { result ≡ register_stored_of s input address }
 {

@@ -1,5 +1,7 @@
 // Lent memory: the length that document 01 gives a slice, and access that is total, so that no
 // caller needs to know a length.
+#![tactic(auto)]
+
 pub mod wram;
 
 ghost use Rattle.std.specs.Prelude.{◌≡◌, get_or, set};
@@ -14,6 +16,7 @@ pub const VRAM: usize = 16384;
 pub const OAM: usize = 160;
 
 // Refusal 2 of a call that is lent all four slices, by their lengths.
+#[tactic(auto, unfolding(crate::specs::Lengths::wrong_lengths))]
 pub fn wrong_lengths(cartridge: usize, wram: usize, vram: usize, oam: usize) -> bool
     ensures { result ≡ wrong_lengths cartridge wram vram oam }
 {

@@ -1,4 +1,6 @@
 // The next pair of addresses and the escape drain (vram_dma.rs, `moving`, `refill_quota`, `next_byte`, `drain_escape`).
+#![tactic(auto)]
+
 ghost use Rattle.std.specs.Prelude.{◌≡◌};
 ghost use Rattle.transfer.specs.Pair.{moving_of, quota_of, next_byte_of, drain_of};
 
@@ -7,6 +9,7 @@ use console::vram_dma::VramDma;
 use transfer::pair::{BytePair, NextAnswer, NextByte};
 
 // Whether a byte may move: bytes are left, and a ready block stands or the mode is General.
+#[tactic(auto, unfolding(transfer::specs::Pair::moving_of))]
 pub fn moving(d: VramDma) -> bool
     ensures { result ≡ moving_of d }
 {
@@ -25,6 +28,7 @@ pub fn quota(moving: bool, double_speed: bool) -> u8
     pick8(moving, pick8(double_speed, 1, 2), 0)
 }
 
+#[tactic(auto, unfolding(transfer::specs::Pair::next_byte_of))]
 pub fn next_byte(d: VramDma) -> NextByte
     ensures { result ≡ next_byte_of d }
 {
@@ -51,6 +55,7 @@ pub fn next_byte(d: VramDma) -> NextByte
 }
 
 // The escape byte of a cut, moved outside the length.
+#[tactic(auto, unfolding(transfer::specs::Pair::drain_of))]
 pub fn drain_escape(d: VramDma) -> NextByte
     ensures { result ≡ drain_of d }
 {

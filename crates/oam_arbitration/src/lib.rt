@@ -1,4 +1,6 @@
 // Who has the shared bus (vram_dma.rs, `vram_dma_arbitrate_oam_bus`).
+#![tactic(auto)]
+
 ghost use Rattle.std.specs.Prelude.{◌≡◌};
 ghost use Rattle.bus.specs.Arbitration.{contends, stalls, arbitration_of, arbitrated_of};
 
@@ -6,6 +8,7 @@ use bus::arbitration::{Arbitrated, Arbitration, ArbitrationInput};
 use console::vram_dma::{OamContention, VramDma};
 
 // Single speed: both engines move a byte, or OAM DMA's last byte still shares the M-cycle.
+#[tactic(auto, unfolding(bus::specs::Arbitration::contends))]
 fn contends(d: VramDma, double_speed: bool, i: ArbitrationInput) -> bool
     ensures { result ≡ contends double_speed i d }
 {
@@ -14,6 +17,7 @@ fn contends(d: VramDma, double_speed: bool, i: ArbitrationInput) -> bool
 }
 
 // Double speed: an escape byte's tenure holds OAM DMA's byte.
+#[tactic(auto, unfolding(bus::specs::Arbitration::stalls))]
 fn stalls(d: VramDma, double_speed: bool, i: ArbitrationInput) -> bool
     ensures { result ≡ stalls double_speed i d }
 {
@@ -21,6 +25,7 @@ fn stalls(d: VramDma, double_speed: bool, i: ArbitrationInput) -> bool
     double_speed & i.oam_transferring & (i.hold | i.suspended) & d.cursor.escape_byte & moves
 }
 
+#[tactic(auto, unfolding(bus::specs::Arbitration::arbitration_of))]
 fn verdict(contended: bool, stalled: bool) -> Arbitration
     ensures { result ≡ arbitration_of contended stalled }
 {
@@ -33,6 +38,7 @@ fn verdict(contended: bool, stalled: bool) -> Arbitration
     Arbitration::Clear
 }
 
+#[tactic(auto, unfolding(bus::specs::Arbitration::arbitrated_of))]
 pub fn arbitrate_oam_bus(d: VramDma, double_speed: bool, i: ArbitrationInput) -> Arbitrated
     ensures { result ≡ arbitrated_of double_speed i d }
 {

@@ -1,4 +1,6 @@
 // The byte that a contended bus call leaves in OAM (vram_dma.rs, `vram_dma_commit_bytes`).
+#![tactic(auto)]
+
 ghost use Rattle.std.specs.Prelude.{◌≡◌};
 ghost use Rattle.bus.specs.Deposit.{phase_of, Coinciding, deposited};
 
@@ -22,6 +24,7 @@ fn coinciding(count: u8, phase: u64) -> usize
 }
 
 // The coinciding byte lands in OAM, at the low byte of its source.
+#[tactic(auto, unfolding(bus::specs::Deposit::deposited))]
 pub fn deposit(
     oam: &mut [u8],
     contended: bool,

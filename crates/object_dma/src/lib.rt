@@ -1,4 +1,6 @@
 // Object DMA (document 02, A1): whether it runs, its start by a write to FF46, where its next byte comes from and where it goes.
+#![tactic(auto)]
+
 ghost use Rattle.std.specs.Prelude.{◌≡◌};
 ghost use Rattle.object_dma.specs.ObjectDma.{runs, started, source_of, target_of};
 

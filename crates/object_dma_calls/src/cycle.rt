@@ -10,7 +10,7 @@ use console::object::ObjectDma;
 use console::{Cgb, refusal};
 
 // What became of the next byte, and object DMA after it.
-#[derive(Drop)]
+#[derive(Clone, Copy)]
 pub struct ByteTaken {
     pub answer: CycleAnswer,
     pub byte: u8,

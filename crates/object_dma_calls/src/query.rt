@@ -4,6 +4,7 @@ ghost use Rattle.object_dma_calls.specs.Query.{AnswersObjectDma};
 use answers::ObjectDmaAnswer;
 use console::{Cgb, refusal};
 
+#[tactic(auto, unfolding(crate::specs::Query::object_dma_call_of))]
 pub fn object_dma(state: Cgb) -> ObjectDmaAnswer
     ensures { AnswersObjectDma state result }
 {

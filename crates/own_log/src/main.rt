@@ -1,6 +1,8 @@
 // own_log: reads a replay script from standard input and writes the engine's own log of it to standard output, as a board would
 // (document 02, A2). Each read's records are written before the next read. On standard error it says what keeps the log from being
 // that of the whole input: bytes behind the last whole record, an input that cannot be read, an output that cannot be written.
+#![tactic(auto)]
+
 ghost use Rattle.std.specs.Prelude.{◌<◌, ◌≤◌, ◌≡◌, length, take};
 ghost use Rattle.own_log.specs.Turn.{LogTurns};
 
@@ -10,7 +12,7 @@ use log_parts::log_part;
 
 // After a read: the engine's state, how many bytes wait at the front of the buffer, how many reads may still come, and whether the
 // input could not be read or the output not be written.
-#[derive(Drop)]
+#[derive(Clone, Copy)]
 struct Turned {
     state: Cgb,
     waiting: usize,

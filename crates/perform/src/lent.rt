@@ -11,6 +11,7 @@ use map_write::WriteInput;
 use told::Performed;
 use transfer::pair::BytePair;
 
+#[tactic(auto, unfolding(crate::specs::Perform::write_performed))]
 pub fn write(state: Cgb, wram: &mut [u8], address: u16, input: WriteInput) -> Performed
     ensures { WritePerformed state input address wram.old result wram.new }
 {
@@ -20,6 +21,7 @@ pub fn write(state: Cgb, wram: &mut [u8], address: u16, input: WriteInput) -> Pe
     told::quiet(told::of_done(answer), after)
 }
 
+#[tactic(auto, unfolding(crate::specs::Perform::read_performed))]
 pub fn read(state: Cgb, wram: &[u8], address: u16) -> Performed
     ensures { result ≡ read_performed state wram.now address }
 {
@@ -27,6 +29,7 @@ pub fn read(state: Cgb, wram: &[u8], address: u16) -> Performed
     told::quiet(told::of_byte(answer), state)
 }
 
+#[tactic(auto, unfolding(crate::specs::Perform::bus_performed))]
 pub fn bus(
     state: Cgb,
     input: BusInput,
@@ -53,6 +56,7 @@ pub fn bus(
     }
 }
 
+#[tactic(auto, unfolding(crate::specs::Perform::bus_performed))]
 pub fn bus_inside(
     state: Cgb,
     input: HoldInput,
@@ -79,6 +83,7 @@ pub fn bus_inside(
     }
 }
 
+#[tactic(auto, unfolding(crate::specs::Perform::cycle_performed))]
 pub fn cycle(
     state: Cgb,
     arbitration: Arbitration,

@@ -1,5 +1,7 @@
 // Every call of the engine through one function: what a board, a C program or a comparison with the
 // original drives. Code and contracts are the engine's; here they are only gathered.
+#![tactic(auto)]
+
 pub mod lent;
 
 ghost use Rattle.perform.specs.Perform.{Performs};

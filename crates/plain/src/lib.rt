@@ -1,4 +1,6 @@
 // The calls that are lent no memory, through one function: what each said, and the state after.
+#![tactic(auto)]
+
 ghost use Rattle.std.specs.Prelude.{◌≡◌};
 ghost use Rattle.plain.specs.Plain.{plain_performed};
 
@@ -11,6 +13,7 @@ use fall_edge::FallInput;
 use speed_switch::switch::SwitchInput;
 use told::Performed;
 
+#[tactic(auto, unfolding(crate::specs::Plain::plain_performed))]
 fn fell(state: Cgb, input: FallInput) -> Performed
     ensures { result ≡ plain_performed state (PlainCall.Fall input) }
 {
@@ -20,6 +23,7 @@ fn fell(state: Cgb, input: FallInput) -> Performed
     told::quiet(told::of_claim(answer), after)
 }
 
+#[tactic(auto, unfolding(crate::specs::Plain::plain_performed))]
 fn next_pair(state: Cgb) -> Performed
     ensures { result ≡ plain_performed state PlainCall.NextPair }
 {
@@ -29,6 +33,7 @@ fn next_pair(state: Cgb) -> Performed
     told::quiet(told::of_pair(answer), after)
 }
 
+#[tactic(auto, unfolding(crate::specs::Plain::plain_performed))]
 fn escape_drain(state: Cgb) -> Performed
     ensures { result ≡ plain_performed state PlainCall.EscapeDrain }
 {
@@ -38,6 +43,7 @@ fn escape_drain(state: Cgb) -> Performed
     told::quiet(told::of_pair(answer), after)
 }
 
+#[tactic(auto, unfolding(crate::specs::Plain::plain_performed))]
 fn switched(state: Cgb, input: SwitchInput) -> Performed
     ensures { result ≡ plain_performed state (PlainCall.Switch input) }
 {
@@ -47,6 +53,7 @@ fn switched(state: Cgb, input: SwitchInput) -> Performed
     told::quiet(told::of_switch(answer), after)
 }
 
+#[tactic(auto, unfolding(crate::specs::Plain::plain_performed))]
 fn lcd_off(state: Cgb) -> Performed
     ensures { result ≡ plain_performed state PlainCall.LcdOff }
 {
@@ -56,6 +63,7 @@ fn lcd_off(state: Cgb) -> Performed
     told::quiet(told::of_done(answer), after)
 }
 
+#[tactic(auto, unfolding(crate::specs::Plain::plain_performed))]
 fn retired(state: Cgb) -> Performed
     ensures { result ≡ plain_performed state PlainCall.InstructionRetired }
 {
@@ -65,6 +73,7 @@ fn retired(state: Cgb) -> Performed
     told::quiet(told::of_done(answer), after)
 }
 
+#[tactic(auto, unfolding(crate::specs::Plain::plain_performed))]
 fn blackout(state: Cgb, elapsed: u32) -> Performed
     ensures { result ≡ plain_performed state (PlainCall.Blackout elapsed) }
 {
@@ -74,6 +83,7 @@ fn blackout(state: Cgb, elapsed: u32) -> Performed
     told::quiet(told::of_flag(answer), after)
 }
 
+#[tactic(auto, unfolding(crate::specs::Plain::plain_performed))]
 fn wake(state: Cgb, boundary: bool) -> Performed
     ensures { result ≡ plain_performed state (PlainCall.Wake boundary) }
 {
@@ -83,6 +93,7 @@ fn wake(state: Cgb, boundary: bool) -> Performed
     told::quiet(told::of_flag(answer), after)
 }
 
+#[tactic(auto, unfolding(crate::specs::Plain::plain_performed))]
 fn arbitrated(state: Cgb, input: ArbitrationInput) -> Performed
     ensures { result ≡ plain_performed state (PlainCall.Arbitrate input) }
 {
@@ -92,6 +103,7 @@ fn arbitrated(state: Cgb, input: ArbitrationInput) -> Performed
     told::quiet(told::of_arbitration(answer), after)
 }
 
+#[tactic(auto, unfolding(crate::specs::Plain::plain_performed))]
 fn arbitrated_inside(state: Cgb, input: HoldInput) -> Performed
     ensures { result ≡ plain_performed state (PlainCall.ArbitrateInside input) }
 {
@@ -101,6 +113,7 @@ fn arbitrated_inside(state: Cgb, input: HoldInput) -> Performed
     told::quiet(told::of_arbitration(answer), after)
 }
 
+#[tactic(auto, unfolding(crate::specs::Plain::plain_performed))]
 fn conflict(state: Cgb, address: u16) -> Performed
     ensures { result ≡ plain_performed state (PlainCall.Conflict address) }
 {
@@ -108,6 +121,7 @@ fn conflict(state: Cgb, address: u16) -> Performed
     told::quiet(told::of_conflict(answer), state)
 }
 
+#[tactic(auto, unfolding(crate::specs::Plain::plain_performed))]
 fn asked(state: Cgb, question: Query) -> Performed
     ensures { result ≡ plain_performed state (PlainCall.Query question) }
 {

@@ -1,5 +1,7 @@
 // A part made anew field by field, as it is or with one field anew: the compiler keeps such a part in registers where it
 // would copy it whole. Written by tools/setters from the structs: what some crate uses.
+#![tactic(auto)]
+
 ghost use Rattle.std.specs.Prelude.{◌≡◌};
 ghost use Rattle.console.specs.Set.{with_cursor_mode};
 ghost use Rattle.console.specs.Set.{with_cursor_remaining};

@@ -41,6 +41,7 @@ pub fn write_input(bytes: [u8; 16]) -> WriteInput
     }
 }
 
+#[tactic(auto, unfolding(crate::specs::Input::fall_input_of))]
 pub fn fall_input(bytes: [u8; 16]) -> FallInput
     ensures { result ≡ fall_input_of bytes }
 {
@@ -56,6 +57,7 @@ pub fn fall_input(bytes: [u8; 16]) -> FallInput
     }
 }
 
+#[tactic(auto, unfolding(crate::specs::Input::switch_input_of))]
 pub fn switch_input(bytes: [u8; 16]) -> SwitchInput
     ensures { result ≡ switch_input_of bytes }
 {
@@ -69,6 +71,7 @@ pub fn switch_input(bytes: [u8; 16]) -> SwitchInput
     }
 }
 
+#[tactic(auto, unfolding(crate::specs::Input::bus_input_of))]
 pub fn bus_input(bytes: [u8; 16]) -> BusInput
     ensures { result ≡ bus_input_of bytes }
 {
@@ -81,6 +84,7 @@ pub fn bus_input(bytes: [u8; 16]) -> BusInput
     }
 }
 
+#[tactic(auto, unfolding(crate::specs::Input::arbitration_input_of))]
 pub fn arbitration_input(bytes: [u8; 16]) -> ArbitrationInput
     ensures { result ≡ arbitration_input_of bytes }
 {
@@ -92,6 +96,7 @@ pub fn arbitration_input(bytes: [u8; 16]) -> ArbitrationInput
     }
 }
 
+#[tactic(auto, unfolding(crate::specs::Input::hold_input_of))]
 pub fn hold_input(bytes: [u8; 16]) -> HoldInput
     ensures { result ≡ hold_input_of bytes }
 {

@@ -6,18 +6,19 @@ use crate::input;
 use call::PlainCall;
 use call::query::Query;
 
-#[derive(Drop)]
+#[derive(Clone, Copy)]
 pub enum CodedPlain {
     Plain(PlainCall),
     Unknown,
 }
 
-#[derive(Drop)]
+#[derive(Clone, Copy)]
 pub enum CodedQuery {
     Query(Query),
     Unknown,
 }
 
+#[tactic(auto, unfolding(crate::specs::Kind::query_kind))]
 fn query(kind: u8) -> CodedQuery
     ensures { result ≡ query_kind kind }
 {
@@ -50,6 +51,7 @@ fn asked(kind: u8) -> CodedPlain
     CodedPlain::Plain(PlainCall::Query(q))
 }
 
+#[tactic(auto, unfolding(crate::specs::Kind::plain_of))]
 pub fn plain(bytes: [u8; 16]) -> CodedPlain
     ensures { result ≡ plain_of bytes }
 {

@@ -1,5 +1,7 @@
 // The records of a program in another language, and of the replay: a call in 16 bytes, its kind first, 1 to 7 as in the
 // replay (document 01, section 6), then the rest; an answer in 24.
+#![tactic(auto)]
+
 pub mod answer;
 pub mod input;
 pub mod kind;
@@ -11,7 +13,7 @@ use bus::arbitration::Arbitration;
 use call::Call;
 use kind::CodedPlain;
 
-#[derive(Drop)]
+#[derive(Clone, Copy)]
 pub enum Coded {
     Call(Call),
     Unknown,
@@ -27,6 +29,7 @@ fn wrapped(coded: CodedPlain) -> Coded
 }
 
 // Arbitration's answer by its number; above 2 it is none.
+#[tactic(auto, unfolding(crate::specs::Record::cycle_in))]
 fn cycle(answer: u8) -> Coded
     ensures { result ≡ cycle_in answer }
 {
@@ -38,6 +41,7 @@ fn cycle(answer: u8) -> Coded
     }
 }
 
+#[tactic(auto, unfolding(crate::specs::Record::call_of))]
 pub fn decode(bytes: [u8; 16]) -> Coded
     ensures { result ≡ call_of bytes }
 {

@@ -1,5 +1,7 @@
 // Register and WRAM reads and writes (lib.rs, `map_read`, `map_write`). The slice is work RAM, and
 // its length is tested for every address.
+#![tactic(auto)]
+
 ghost use Rattle.register_calls.specs.Access.{read_of, read_said, AnswersWrite};
 ghost use Rattle.answers.specs.Answers.{Answers, byte_says};
 

@@ -1,5 +1,7 @@
 // The address map (registers.rs): where an address lies in work RAM or in the extra OAM rows, and which registers
 // compat locks.
+#![tactic(auto)]
+
 pub mod extra_oam;
 
 ghost use Rattle.std.specs.Prelude.{◌≡◌};
@@ -9,12 +11,13 @@ ghost use Rattle.registers.specs.Ram.{wram_index_of};
 use memory::wram::banked;
 
 // Where an address lies in work RAM: `Option<usize>` in the Rust.
-#[derive(Drop)]
+#[derive(Clone, Copy)]
 pub enum WramIndex {
     At(usize),
     Elsewhere,
 }
 
+#[tactic(auto, unfolding(crate::specs::Ram::wram_index_of))]
 pub fn wram_index(svbk: u8, address: u16) -> WramIndex
     ensures { result ≡ wram_index_of svbk address }
 {
@@ -28,6 +31,7 @@ pub fn wram_index(svbk: u8, address: u16) -> WramIndex
 }
 
 // The registers that compat locks against writes.
+#[tactic(auto, unfolding(crate::specs::Map::locks_at, crate::specs::Map::place_of))]
 pub fn compat_locks(address: u16) -> bool
     ensures { result ≡ locks_at address }
 {

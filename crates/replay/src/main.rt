@@ -1,6 +1,8 @@
 // Replays records of 16 bytes from standard input, from power-on without compat, and writes a line for each
 // (document 01, section 6): record from 0, refusal or 0, pairs, left, FF55 in two capitals; the pair's cause (document 02, A3). It streams:
 // input and output pass through buffers of fixed size, and each read's lines are written before the next read.
+#![tactic(auto)]
+
 ghost use Rattle.std.specs.Prelude.{◌≡◌, ◌-◌, ◌*◌, ◌/◌, ◌<◌, ◌≤◌, length, if◌then◌else◌};
 
 use console::Cgb;
@@ -11,7 +13,7 @@ use replay_step::{line, read, step};
 const NEARLY_FULL: usize = 65000;
 
 // The engine's state and the next record's number.
-#[derive(Drop)]
+#[derive(Clone, Copy)]
 struct Replay {
     state: Cgb,
     number: u64,
@@ -19,7 +21,7 @@ struct Replay {
 
 // After a read: the replay; where in the buffer the bytes of an incomplete record wait, from one place up to another; and how many
 // reads may still come, none after the end of the input.
-#[derive(Drop)]
+#[derive(Clone, Copy)]
 struct Turned {
     replay: Replay,
     from: usize,

@@ -15,6 +15,7 @@ fn put_numbers(out: &mut [u8], at: usize, number: u64, line: Line) -> usize
     text::put_field(out, c, line.left as u64)
 }
 
+#[tactic(auto, unfolding(crate::specs::Line::line_text))]
 pub fn put_line(out: &mut [u8], at: usize, number: u64, line: Line) -> usize
     ensures { Put out.old at (line_text number line) result out.new }
 {

@@ -7,7 +7,7 @@ use memory::byte_at;
 use record::Coded;
 
 // The call, and whether it is one that hands out a pair.
-#[derive(Drop)]
+#[derive(Clone, Copy)]
 pub struct Record {
     pub call: Coded,
     pub hands_pair: bool,
@@ -46,6 +46,7 @@ pub fn sixteen(bytes: &[u8]) -> [u8; 16]
     ]
 }
 
+#[tactic(auto, unfolding(crate::specs::Record::record_of))]
 fn of_sixteen(bytes: [u8; 16]) -> Record
     ensures { result ≡ record_of bytes }
 {
@@ -61,6 +62,7 @@ fn of_sixteen(bytes: [u8; 16]) -> Record
 }
 
 // The record at the start of some bytes; a short one is of no kind.
+#[tactic(auto, unfolding(crate::specs::Record::record_of, record::specs::Record::call_of, record::specs::Record::cycle_in, record::specs::Kind::plain_of, record::specs::Input::fall_input_of, record::specs::Input::switch_input_of, record::specs::Input::bus_input_of, record::specs::Input::arbitration_input_of, record::specs::Input::hold_input_of, crate::specs::Record::record_at_start))]
 pub fn record_of(bytes: &[u8]) -> Record
     ensures { result ≡ record_at_start bytes.now }
 {

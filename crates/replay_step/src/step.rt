@@ -9,7 +9,7 @@ use transfer::pair::BytePair;
 
 // A line without its number: the refusal or 0, how many pairs came, what is left and FF55 after the record, and the pair with the
 // number of its cause (document 02, A3). The line shows the cause and not the pair, the board's log the pair and not the cause.
-#[derive(Drop)]
+#[derive(Clone, Copy)]
 pub struct Line {
     pub refusal: u8,
     pub pairs: u8,
@@ -21,19 +21,20 @@ pub struct Line {
 }
 
 // The pair that a call told, with the number of its cause.
-#[derive(Drop)]
+#[derive(Clone, Copy)]
 pub enum ToldPair {
     Pair(BytePair, u16),
     None,
 }
 
-#[derive(Drop)]
+#[derive(Clone, Copy)]
 pub struct Stepped {
     pub line: Line,
     pub state: Cgb,
 }
 
 // The line of a call without a pair.
+#[tactic(auto, unfolding(crate::specs::Step::line_of))]
 fn quiet(refusal: u8, state: Cgb) -> Stepped
     ensures { result ≡ line_of refusal state }
 {
@@ -53,6 +54,7 @@ fn quiet(refusal: u8, state: Cgb) -> Stepped
     }
 }
 
+#[tactic(auto, unfolding(crate::specs::Step::pair_line_of))]
 fn lined(refusal: u8, answer: ToldPair, state: Cgb) -> Stepped
     ensures { result ≡ pair_line_of refusal answer state }
 {
@@ -76,6 +78,7 @@ fn lined(refusal: u8, answer: ToldPair, state: Cgb) -> Stepped
 }
 
 // The pair that a call told, if it is one that hands out a pair.
+#[tactic(auto, unfolding(crate::specs::Step::told_pair))]
 fn handed(hands: bool, told: Told) -> ToldPair
     ensures { result ≡ told_pair hands told }
 {
@@ -93,6 +96,7 @@ fn handed(hands: bool, told: Told) -> ToldPair
 }
 
 // A record at a state. A record of another kind, or a short one, gets 6.
+#[tactic(auto, unfolding(crate::specs::Step::step_of))]
 pub fn perform(state: Cgb, wram: &mut [u8], given: Record) -> Stepped
     ensures { Steps state wram.old given result wram.new }
 {

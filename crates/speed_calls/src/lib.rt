@@ -1,5 +1,7 @@
 // The speed switch, its blackout and the wake in it (lib.rs, `resolve_stop`,
 // `drain_speed_switch_blackout`, `speed_switch_wake_ready`).
+#![tactic(auto)]
+
 ghost use Rattle.std.specs.Prelude.{◌≡◌};
 ghost use Rattle.answers.specs.Answers.{Answers, switched_says, flagged_says};
 ghost use Rattle.speed_calls.specs.Speed.{defers, switch_number, switch_answer_of, switch_call_of, switch_said};
@@ -30,6 +32,7 @@ fn told(outcome: SwitchOutcome) -> SwitchAnswer
 }
 
 // Downward, a granted burst keeps the bus and the settle waits for it.
+#[tactic(auto, unfolding(crate::specs::Speed::defers))]
 fn deferred(state: Cgb) -> bool
     ensures { result ≡ defers state }
 {
@@ -93,6 +96,7 @@ pub fn attempt_speed_switch(state: Cgb, input: SwitchInput) -> Switched
     }
 }
 
+#[tactic(auto, unfolding(crate::specs::Speed::blackout_call_of))]
 pub fn drain_speed_switch_blackout(state: Cgb, elapsed: u32) -> Flagged
     ensures { Answers flagged_says (blackout_call_of state elapsed) (blackout_said state elapsed) result }
 {
@@ -110,6 +114,7 @@ pub fn drain_speed_switch_blackout(state: Cgb, elapsed: u32) -> Flagged
     }
 }
 
+#[tactic(auto, unfolding(crate::specs::Speed::wake_call_of))]
 pub fn speed_switch_wake_ready(state: Cgb, mcycle_boundary: bool) -> Flagged
     ensures { Answers flagged_says (wake_call_of state mcycle_boundary) (wake_said state mcycle_boundary) result }
 {

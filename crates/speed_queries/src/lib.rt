@@ -1,4 +1,6 @@
 // What is asked of the speed and of the blackout of a switch, and changes nothing (lib.rs, speed_switch.rs). Each tests 7.
+#![tactic(auto)]
+
 ghost use Rattle.answers.specs.Queries.{AnswersFlag, AnswersByte};
 ghost use Rattle.speed_queries.specs.Queries.{switch_in_progress, divider_runs, at_double_speed, cpu_steps};
 

@@ -1,4 +1,6 @@
 // The KEY1 speed switch (speed_switch.rs): the CPU's steps at a speed, and the switch.
+#![tactic(auto)]
+
 pub mod switch;
 
 ghost use Rattle.std.specs.Prelude.{◌≡◌};

@@ -8,7 +8,7 @@ use console::Cgb;
 use cut::SwitchOutcome;
 
 // What a switch attempt is given.
-#[derive(Drop)]
+#[derive(Clone, Copy)]
 pub struct SwitchInput {
     // A bus master holds the CPU.
     pub hold: bool,
@@ -19,7 +19,7 @@ pub struct SwitchInput {
     pub master_edge: u64,
 }
 
-#[derive(Drop)]
+#[derive(Clone, Copy)]
 pub struct Switched {
     pub outcome: SwitchOutcome,
     pub state: Cgb,
@@ -27,6 +27,7 @@ pub struct Switched {
 
 // Master edges of the blackout: the hold at the new speed with its relock, changed by the debit; an
 // interrupt leaves only the relock.
+#[tactic(auto, unfolding(crate::specs::Switch::blackout_of))]
 fn blackout_count(up: bool, debit: bool, interrupt_ready: bool) -> u32
     ensures { result ≡ blackout_of up debit interrupt_ready }
 {
@@ -43,6 +44,7 @@ fn debit_after(up: bool, debit: bool, dot_phase: u8) -> bool
     (up & !debit & (dot_phase == 3)) | (!up & debit)
 }
 
+#[tactic(auto, unfolding(crate::specs::Switch::switched_of))]
 pub fn switch(s: Cgb, input: SwitchInput) -> Switched
     ensures { result ≡ switched_of input s }
 {

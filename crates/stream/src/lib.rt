@@ -1,10 +1,12 @@
 // A file read in parts through a buffer of fixed size: bytes that are not used yet wait at its front, and a read brings more
 // behind them.
+#![tactic(auto)]
+
 ghost use Rattle.std.specs.Prelude.{◌-◌, ◌<◌, ◌≤◌, min, max, false, cond, ◌≡◌, length, take, drop};
 
 // How many bytes stand in the buffer after a read, and whether the file could not be read. If no more than waited, and the buffer
 // is not full, the file ended or could not be read.
-#[derive(Drop)]
+#[derive(Clone, Copy)]
 pub struct Filled {
     pub bytes: usize,
     pub failed: bool,
@@ -63,7 +65,7 @@ pub fn to_front(buf: &mut [u8], from: usize, end: usize) -> usize
 
 // Where bytes wait in a buffer after a refill; whether a read was needed and brought nothing, so that the file has ended or cannot be
 // read; and whether it cannot.
-#[derive(Drop)]
+#[derive(Clone, Copy)]
 pub struct Refilled {
     pub from: usize,
     pub stop: usize,

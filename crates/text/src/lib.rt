@@ -1,5 +1,7 @@
 // Text in a lent buffer: a character, characters, a decimal number, a byte in two capitals. Each function stores what fits from a place on,
 // so that it asks nothing of its caller, and answers the place past what it stored.
+#![tactic(auto)]
+
 ghost use Rattle.std.specs.Prelude.{◌<◌, [], ◌∷◌};
 ghost use Rattle.text.specs.Text.{digit, capital, decimal, field, four_digits, hex_byte, Put};
 

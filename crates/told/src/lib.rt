@@ -1,5 +1,7 @@
 // What a call gives, as numbers: the refusal or 0, then up to four values in the order of the definitions
 // (answers/specs/Answers); with a bus call's pairs, causes and bytes, the byte of an M-cycle call, and the state.
+#![tactic(auto)]
+
 ghost use Rattle.std.specs.Prelude.{◌≡◌};
 ghost use Rattle.answers.specs.Answers.{bit_of, done_says, byte_says, flag_says, claim_says, tally_says, pair_says, cause_number, causes_say, switch_says, arbitration_says, conflict_says, bus_says, cycle_says, object_dma_says, status_says, mode_says, accepted};
 ghost use Rattle.told.specs.Told.{told_of, told_refused, told_values, quietly};
@@ -12,7 +14,7 @@ use console::Cgb;
 use transfer::VramDmaStatus;
 use transfer::pair::{BytePair, Cause, Causes};
 
-#[derive(Drop)]
+#[derive(Clone, Copy)]
 pub struct Told {
     pub refusal: u8,
     pub v0: u16,
@@ -23,7 +25,7 @@ pub struct Told {
 
 // What a call said and left. The arrays are a bus call's, its pairs' causes as numbers, and an M-cycle call's byte is the first: of
 // another call they are 0.
-#[derive(Drop)]
+#[derive(Clone, Copy)]
 pub struct Performed {
     pub told: Told,
     pub pairs: [BytePair; 2],

@@ -1,10 +1,12 @@
 // The byte engine of vram_dma.rs (`impl VramDma`, `impl TransferCursor`): what it answers. Definitions and laws stand in
 // specs/ and proofs/; the functions in `advance` and `next_pair` (a pair), `dma_status` (what is asked) and `dma_events`
 // (what it is told).
+#![tactic(auto)]
+
 pub mod pair;
 
 // What the engine is doing, for inspection.
-#[derive(Drop)]
+#[derive(Clone, Copy)]
 pub enum VramDmaStatus {
     Idle,
     General {
@@ -18,7 +20,7 @@ pub enum VramDmaStatus {
 }
 
 // The source of the byte that a CPU read of an address collides with: `Option<u16>` in the Rust.
-#[derive(Drop)]
+#[derive(Clone, Copy)]
 pub enum Conflict {
     Source(u16),
     None,

@@ -2,14 +2,14 @@
 use console::vram_dma::VramDma;
 
 // Where a byte is read and where it is stored.
-#[derive(Drop)]
+#[derive(Clone, Copy)]
 pub struct BytePair {
     pub source: u16,
     pub dest: u16,
 }
 
 // How the run goes on after a pair (document 02, A3).
-#[derive(Drop)]
+#[derive(Clone, Copy)]
 pub enum Cause {
     // Bytes are left.
     GoingOn,
@@ -20,20 +20,20 @@ pub enum Cause {
 }
 
 // The causes of a bus call's pairs, in order; a spare one is `GoingOn`.
-#[derive(Drop)]
+#[derive(Clone, Copy)]
 pub struct Causes {
     pub first: Cause,
     pub second: Cause,
 }
 
 // `Option<(u16, u16)>` in the Rust; the cause stands beside the pair.
-#[derive(Drop)]
+#[derive(Clone, Copy)]
 pub enum NextAnswer {
     Pair(BytePair, Cause),
     None,
 }
 
-#[derive(Drop)]
+#[derive(Clone, Copy)]
 pub struct NextByte {
     pub answer: NextAnswer,
     pub dma: VramDma,

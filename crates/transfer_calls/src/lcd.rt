@@ -5,6 +5,7 @@ ghost use Rattle.transfer_calls.specs.Lcd.{lcd_call_of, retired_call_of, done_sa
 use answers::{Done, DoneAnswer};
 use console::{Cgb, refusal};
 
+#[tactic(auto, unfolding(crate::specs::Lcd::lcd_call_of))]
 pub fn vram_dma_lcd_disabled(state: Cgb) -> Done
     ensures { Answers done_state_says (lcd_call_of state) (done_said state) result }
 {
@@ -24,6 +25,7 @@ pub fn vram_dma_lcd_disabled(state: Cgb) -> Done
     }
 }
 
+#[tactic(auto, unfolding(crate::specs::Lcd::retired_call_of))]
 pub fn vram_dma_instruction_retired(state: Cgb) -> Done
     ensures { Answers done_state_says (retired_call_of state) (done_said state) result }
 {

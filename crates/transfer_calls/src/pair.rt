@@ -16,6 +16,7 @@ fn handed(answer: NextAnswer) -> PairAnswer
     PairAnswer::Pair(pair, cause)
 }
 
+#[tactic(auto, unfolding(crate::specs::Pair::next_pair_of))]
 pub fn next_byte(state: Cgb) -> Handed
     ensures { Answers handed_says (next_pair_of state) (next_pair_said state) result }
 {
@@ -36,6 +37,7 @@ pub fn next_byte(state: Cgb) -> Handed
     }
 }
 
+#[tactic(auto, unfolding(crate::specs::Pair::escape_drain_of))]
 pub fn vram_dma_drain_escape(state: Cgb) -> Handed
     ensures { Answers handed_says (escape_drain_of state) (escape_drain_said state) result }
 {

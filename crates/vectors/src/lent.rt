@@ -70,7 +70,7 @@ fn unchanged(memory: &[u8], which: u8, seed: u8) -> bool {
 }
 
 // A byte that a call changed, as a vector names it: which memory, the index in two bytes, the value.
-#[derive(Drop)]
+#[derive(Clone, Copy)]
 struct Change {
     which: u8,
     index: usize,

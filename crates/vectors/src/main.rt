@@ -1,12 +1,14 @@
 // Replays vectors that the original made (differential/): each is a call, the state before, the
 // original's answer, the state after and the bytes of memory that it changed. Any difference is a line.
+#![tactic(auto)]
+
 mod lent;
 mod vector;
 
 use libc::{STDIN_FILENO, STDOUT_FILENO};
 
 // What has been replayed.
-#[derive(Drop)]
+#[derive(Clone, Copy)]
 struct Tally {
     records: u64,
     differences: u64,
