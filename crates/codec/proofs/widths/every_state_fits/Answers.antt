@@ -42,7 +42,7 @@ returns c =
       ff73 = r8.1.0.1;
       ff74 = r8.1.1.0.1;
       ff75 = r8.1.1.1.0.1;
-      extra_oam = record { long = ?; small = λ j. (elem_Fits w8 w8 x e.0.0 j e.0.1.1 tt).fits };
+      extra_oam = record { long = e.0.1.0.1; small = λ j. (elem_Fits w8 w8 x e.0.0 j e.0.1.1 tt).fits };
       selected = e.1.0.1.1.0.1;
       blackout_anchor = e.1.1.0.1.1.0.1;
       object = record { page = o.1.0.1; counted = o.1.1.0.1; start_edge = o.1.1.1.0.1 };
