@@ -52,20 +52,20 @@ pub extern "C" fn cgb_perform(
 
 // The bytes of a General transfer, from the value for FF55 and the destination register.
 #[unsafe(no_mangle)]
-#[tactic(auto, unfolding(estimate::specs::Estimate::estimate_of))]
+#[tactic(auto, unfolding(estimate::specs::Estimate::transfer_time_of))]
 pub extern "C" fn cgb_estimate_bytes(value: u8, destination: u16) -> u16
     ensures { result ≡ estimated_bytes value destination }
 {
-    let time = estimate::estimate(value, destination, false);
+    let time = estimate::transfer_time(value, destination, false);
     time.bytes
 }
 
 // The M-cycles that they take; at double speed if not 0.
 #[unsafe(no_mangle)]
-#[tactic(auto, unfolding(estimate::specs::Estimate::estimate_of))]
+#[tactic(auto, unfolding(estimate::specs::Estimate::transfer_time_of))]
 pub extern "C" fn cgb_estimate(value: u8, destination: u16, double_speed: u8) -> u16
     ensures { result ≡ estimated_cycles value destination (not (eqb double_speed 0)) }
 {
-    let time = estimate::estimate(value, destination, double_speed != 0);
+    let time = estimate::transfer_time(value, destination, double_speed != 0);
     time.m_cycles
 }

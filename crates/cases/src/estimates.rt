@@ -2,8 +2,8 @@
 use crate::say;
 
 fn of(label: &[u8], value: u8, destination: u16) {
-    let single = estimate::estimate(value, destination, false);
-    let double = estimate::estimate(value, destination, true);
+    let single = estimate::transfer_time(value, destination, false);
+    let double = estimate::transfer_time(value, destination, true);
     say::time(label, single.bytes, single.m_cycles, double.m_cycles);
 }
 

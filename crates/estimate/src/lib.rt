@@ -1,12 +1,20 @@
-// How long a General transfer takes (document 02, A5). It takes no state, so it is no call of H.
+// How long a General transfer takes (document 01, section 6; document 02, A5). It takes no state, so it is no call
+// of the engine.
 #![tactic(auto)]
 
 ghost use Rattle.std.specs.Prelude.{◌≡◌};
-ghost use Rattle.estimate.specs.Estimate.{estimate_of};
+ghost use Rattle.estimate.specs.Estimate.{estimate_of, transfer_time_of};
 ghost use Rattle.estimate.specs.Counted.{Counted};
 
 use arithmetic::pick::pick16;
 use arithmetic::step::wide;
+
+// M-cycles, from the value for FF55.
+pub fn estimate(value: u8) -> u16
+    ensures { result ≡ estimate_of value }
+{
+    (wide(value % 128) + 1) * 8
+}
 
 #[derive(Clone, Copy)]
 pub struct TransferTime {
@@ -29,9 +37,9 @@ fn bytes(value: u8, destination: u16) -> u16
 
 // From the value for FF55, of which bit 7 counts for nothing, and the destination register as it stands in
 // front of that write, not the address in VRAM.
-#[tactic(auto, unfolding(crate::specs::Estimate::estimate_of))]
-pub fn estimate(value: u8, destination: u16, double_speed: bool) -> TransferTime
-    ensures { result ≡ estimate_of value destination double_speed }
+#[tactic(auto, unfolding(crate::specs::Estimate::transfer_time_of))]
+pub fn transfer_time(value: u8, destination: u16, double_speed: bool) -> TransferTime
+    ensures { result ≡ transfer_time_of value destination double_speed }
 {
     let count = bytes(value, destination);
     TransferTime {

@@ -265,7 +265,8 @@ agreement =
       ff75_reads = λ s v lcd edge m. ff75_reads s m v lcd edge;
       ff74_locked = ff74_locked;
       time = bits.time;
-      time_double = bits.time_double;
+      time_with_room = bits.time_with_room;
+      time_double_with_room = bits.time_double_with_room;
     }
 
 -- What the differences compute with, by what their calls do: to open one of these is to open all that it names
@@ -301,6 +302,7 @@ difference =
       destination_kept = (refl, refl);
       counted_at_commit = (refl, λ wram whole. rw whole, refl);
       general_seen = λ wram whole. rw whole;
+      time_double = (refl, refl);
       time_short = bits.time_short;
       time_carried = (refl, refl, refl, refl);
       halt_counts = (λ wram whole. rw whole, refl);

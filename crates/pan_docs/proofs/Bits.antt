@@ -64,12 +64,15 @@ again x = omega arith
 pub ff75 : (v : ℕ) → 0x8F + v / 16 % 8 * 16 / 16 % 8 * 16 ≡ pan.ff75 v
 ff75 v = rw (again (v / 16), three (v / 16), quarters v, halves v) (omega arith)
 
--- the M-cycles of a General transfer whose length has room
-pub time : (v d : ℕ) → pan.transfer_length v + d ≤ 65536 → (min (16 * (v % 128 + 1)) (65536 - d) + 1) / 2 ≡ pan.mcycles v
-time v d room = omega (arith, room)
+pub time : (v : ℕ) → 8 * (v % 128 + 1) ≡ pan.mcycles v
+time v = refl
 
-pub time_double : (v d : ℕ) → pan.transfer_length v + d ≤ 65536 → min (16 * (v % 128 + 1)) (65536 - d) ≡ pan.mcycles_double v
-time_double v d room = omega (arith, room)
+-- the M-cycles of a General transfer whose length has room
+pub time_with_room : (v d : ℕ) → pan.transfer_length v + d ≤ 65536 → (min (16 * (v % 128 + 1)) (65536 - d) + 1) / 2 ≡ pan.mcycles v
+time_with_room v d room = omega (arith, room)
+
+pub time_double_with_room : (v d : ℕ) → pan.transfer_length v + d ≤ 65536 → min (16 * (v % 128 + 1)) (65536 - d) ≡ pan.mcycles_double v
+time_double_with_room v d room = omega (arith, room)
 
 -- and of one whose length has not
 pub time_short :

@@ -11,7 +11,7 @@ use Rattle.console.specs.declared.object.ObjectDma.{ObjectDma}
 use Rattle.console.specs.declared.vram_dma.TransferMode.TheVariants as mode
 use Rattle.memory.specs.Lengths.{wram_length}
 use Rattle.transfer.specs.Questions.{write_address}
-use Rattle.estimate.specs.Estimate.{estimated_cycles}
+use Rattle.estimate.specs.Estimate.{estimate_of, estimated_cycles}
 use Rattle.object_dma.specs.ObjectDma.{runs, source_of, target_of, after_byte}
 use Rattle.engine.specs.Calls.{write_refusal, read_of, write_of, fall_call_of, switch_refusal, switch_call_of}
 use Rattle.answers.specs.declared.ByteAnswer.TheVariants.{Byte}
@@ -119,10 +119,13 @@ pub record Agreement : Type 0 where
   pub ff75_reads : (s : Cgb) (v : ℕ) (lcd : Bool) (edge : ℕ) → CgbMode s → Reads (state_after_write 0xFF75 v lcd edge s) 0xFF75 (pan.ff75 v)
   -- outside CGB mode FF74 is locked and reads FF
   pub ff74_locked : (s : Cgb) → unreached s ≡ false → s.dmg_compat ≡ true → Reads s 0xFF74 0xFF
-  -- a block of a General transfer is estimated at 8 M-cycles at single speed and at 16 of the shorter ones at double, and takes so long
-  -- (`general_time`), where the destination register has room for the length (where it has not: `time-short`)
-  pub time : (v destination : ℕ) → pan.transfer_length v + destination ≤ 65536 → estimated_cycles v destination false ≡ pan.mcycles v
-  pub time_double : (v destination : ℕ) → pan.transfer_length v + destination ≤ 65536 → estimated_cycles v destination true ≡ pan.mcycles_double v
+  -- at single speed a block of a General transfer takes 8 M-cycles
+  pub time : (v : ℕ) → estimate_of v ≡ pan.mcycles v
+  -- by its destination register too: 8 M-cycles a block at single speed and 16 of the shorter ones at double, and so long it takes
+  -- (`general_time`), where the register has room for the length (where it has not: `time_short`)
+  pub time_with_room : (v destination : ℕ) → pan.transfer_length v + destination ≤ 65536 → estimated_cycles v destination false ≡ pan.mcycles v
+  pub time_double_with_room :
+      (v destination : ℕ) → pan.transfer_length v + destination ≤ 65536 → estimated_cycles v destination true ≡ pan.mcycles_double v
 
 -- a fall in mode 0, of a CPU that runs or is halted
 abbrev pub mode0 : Bool → FallInput
@@ -150,6 +153,8 @@ pub record Difference : Type 0 where
       (pan.hdma5_running 1 ≡ 0x00)
   -- a General transfer under way is seen as bit 7 set over its length, where Pan Docs lets nobody look
   pub general_seen : Reads (state_after_write 0xFF55 0x00 true 0 (power_on_of false)) 0xFF55 0x80
+  -- the estimate from the value alone is 8 M-cycles a block at either speed, where Pan Docs has 16 at double
+  pub time_double : (estimate_of 0x00 ≡ 8) × (pan.mcycles_double 0x00 ≡ 16)
   -- past FFFFh the destination register carries, and the transfer ends, where Pan Docs knows no carry: without room for the length the
   -- estimate is less at double speed, and at single speed where two bytes or more are missing
   pub time_short :
