@@ -1,8 +1,8 @@
 -- The bus call does what document 01 says of it (specs, `BusSteps`). Assumes nothing.
-use Prim.Native.Nat.{ℕ, suc, ◌+◌, ◌-◌, ◌<◌, min}
+use Prim.Native.Nat.{ℕ, suc, ◌+◌, ◌<◌, min}
 use native.Mathlib.Omega.{arith}
 use mathlib.Core.Path.{◌≡◌, refl, sym, ap, subst, ◌∙◌}
-use mathlib.Core.Bool.{Bool, true, false, cond, ◌||◌, false≢true}
+use mathlib.Core.Bool.{Bool, true, false, ◌||◌, false≢true}
 use mathlib.Core.List.{◌∷◌}
 use mathlib.Core.Logic.{◌↔◌, ⊎_elim}
 use native.Mathlib.Nat.{eq-zero-or-pos}

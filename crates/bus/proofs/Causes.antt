@@ -11,7 +11,7 @@ use Rattle.transfer.specs.Pair.{next_byte_of}
 use Rattle.transfer.specs.declared.pair.BytePair.{BytePair}
 use Rattle.transfer.specs.declared.pair.Cause.{Cause}
 use Rattle.transfer.specs.declared.pair.Cause.TheVariants.{GoingOn}
-use Rattle.transfer.specs.declared.pair.NextAnswer.TheVariants.{Pair, None}
+use Rattle.transfer.specs.declared.pair.NextAnswer.TheVariants.{Pair}
 use Rattle.transfer.proofs.CauseSteps.{cause_steps}
 use Rattle.transfer.proofs.PairSteps.{pair_steps, some_left, is_ready}
 use Rattle.bus.specs.Commit.{Taken, nothing, cell_taken, pairs_of, bus_taken}

@@ -1,15 +1,12 @@
 -- What a bus call takes: nothing where it is released, a set-up cell, or pairs one after the other. Assumes nothing.
-use Prim.Native.Nat.{ℕ, zero, suc, ◌+◌, ◌<◌}
+use Prim.Native.Nat.{ℕ, zero, suc}
 use native.Mathlib.Omega.{arith}
-use mathlib.Core.Path.{◌≡◌, refl, sym, ap, ◌∙◌}
+use mathlib.Core.Path.{◌≡◌, refl, ap, ◌∙◌}
 use mathlib.Core.Bool.{Bool, true, false, cond}
-use mathlib.Core.List.{[], ◌∷◌}
-use mathlib.Core.Logic.{⊎_elim}
-use native.Mathlib.Nat.{eq-zero-or-pos}
+use mathlib.Core.List.{◌∷◌}
 use Rattle.countdown.specs.declared.Countdown.{Countdown}
 use Rattle.console.specs.declared.vram_dma.VramDma.{VramDma}
-use Rattle.transfer.specs.Pair.{moving_of, next_byte_of}
-use Rattle.transfer.specs.PairSteps.{Ready}
+use Rattle.transfer.specs.Pair.{next_byte_of}
 use Rattle.transfer.specs.declared.pair.BytePair.{BytePair}
 use Rattle.transfer.specs.declared.pair.Cause.{Cause}
 use Rattle.transfer.specs.declared.pair.NextAnswer.{NextAnswer}

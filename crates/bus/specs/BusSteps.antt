@@ -1,5 +1,5 @@
 -- What is shown of the bus call, in document 01's words (section 3).
-use Rattle.std.specs.Prelude.{ℕ, ◌+◌, ◌-◌, ◌%◌, ◌<◌, min, ◌≡◌, true, false, [], ◌∷◌, ◌↔◌, length}
+use Rattle.std.specs.Prelude.{◌+◌, ◌-◌, ◌%◌, ◌<◌, min, ◌≡◌, true, false, [], ◌∷◌, ◌↔◌, length}
 use Rattle.countdown.specs.Countdown.{remaining_of, stepped}
 use Rattle.console.specs.declared.vram_dma.TransferMode.TheVariants.{General}
 use Rattle.console.specs.declared.vram_dma.VramDma.{VramDma}

@@ -18,14 +18,6 @@ or-true : (b : Bool) → (b || true) ≡ true
 or-true true = refl
 or-true false = refl
 
-unheld : (b : Bool) → not b ≡ true → b ≡ false
-unheld true h = sym h
-unheld false h = refl
-
-held : (b : Bool) → not b ≡ false → b ≡ true
-held true h = refl
-held false h = sym h
-
 module _ (banks : Banks) (i : BusInput) (d : VramDma) (cartridge wram vram oam : List ℕ) where
   -- without a pair nothing lands in OAM
   none_lands : oam_after banks i cartridge wram d [] oam ≡ oam
@@ -45,19 +37,19 @@ module _ (banks : Banks) (i : BusInput) (d : VramDma) (cartridge wram vram oam :
         deposit = sym none_lands ∙ ap (λ (x : List BytePair). oam_after banks i cartridge wram d x oam) (sym ps);
       }
 
-  pub committed_released : (r : Run) → not (holds_bus i) ≡ true → r ≡ rest_run d → Committed banks i d cartridge wram vram oam r vram oam
+  pub committed_released : (r : Run) → holds_bus i ≡ false → r ≡ rest_run d → Committed banks i d cartridge wram vram oam r vram oam
   unfolding run_of bytes_of
-  committed_released r h e = without (nothing d) r (released i d (unheld (holds_bus i) h)) e refl
+  committed_released r h e = without (nothing d) r (released i d h) e refl
 
   pub committed_cell :
-      (r : Run) (tick : Ticked) → not (holds_bus i) ≡ false → tick ≡ ticked d.block.setup_cells → tick.flag ≡ true →
+      (r : Run) (tick : Ticked) → holds_bus i ≡ true → tick ≡ ticked d.block.setup_cells → tick.flag ≡ true →
       r ≡ setup_run tick.next d → Committed banks i d cartridge wram vram oam r vram oam
   unfolding run_of bytes_of
   committed_cell r tick h is s e =
-      without _ r (cell i d (held (holds_bus i) h) (rw is at s)) (e ∙ ap (λ (t : Ticked). setup_run t.next d) is) refl
+      without _ r (cell i d h (rw is at s)) (e ∙ ap (λ (t : Ticked). setup_run t.next d) is) refl
 
   pub committed_pairs :
-      (r : Run) (tick : Ticked) (phase : ℕ) (last_vram last_oam : List ℕ) → not (holds_bus i) ≡ false →
+      (r : Run) (tick : Ticked) (phase : ℕ) (last_vram last_oam : List ℕ) → holds_bus i ≡ true →
       tick ≡ ticked d.block.setup_cells → tick.flag ≡ false →
       ◌≡◌ {A = Ran} (record { run = r; vram = last_vram }) (loop_of banks cartridge wram d vram) →
       phase ≡ phase_of d.block.start_edge i.oam_start_edge →
@@ -66,7 +58,7 @@ module _ (banks : Banks) (i : BusInput) (d : VramDma) (cartridge wram vram oam :
   unfolding loop_of oam_after run_of
   committed_pairs r tick phase last_vram last_oam h t s e ph o =
       let run : r ≡ run_of banks cartridge wram (pairs_of d) = ap (λ (x : Ran). x.run) e in
-      let is : pairs_of d ≡ bus_taken i d = sym (moving i d (held (holds_bus i) h) (rw t at s)) in
+      let is : pairs_of d ≡ bus_taken i d = sym (moving i d h (rw t at s)) in
       record {
         result = run ∙ ap (run_of banks cartridge wram) is;
         stored = ap (λ (x : Ran). x.vram) e ∙ ap (λ (t : Taken). vram_after banks cartridge wram t.pairs vram) is;

@@ -7,6 +7,7 @@ use bus::commit::Banks;
 use memory::byte_at;
 
 // The byte at a source address; `video` is what 8000 to 9FFF gives.
+#[tactic(auto, unfolding(bus::specs::Source::source_byte))]
 pub fn read_source(video: u8, cartridge: &[u8], wram: &[u8], svbk: u8, address: u16) -> u8
     ensures { result ≡ source_byte video cartridge.now wram.now svbk address }
 {

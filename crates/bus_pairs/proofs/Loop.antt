@@ -20,7 +20,6 @@ use Rattle.bus.specs.Store.{vram_with}
 use Rattle.bus.specs.Deposit.{no_pair}
 use Rattle.bus.specs.Commit.{pairs_of, bytes_of, vram_after, first_two, no_causes, first_causes, run_of, Ran, loop_of}
 use Rattle.bus.specs.declared.commit.Banks.{Banks}
-use Rattle.bus.specs.declared.commit.Run.{Run}
 use Rattle.bus.proofs.Taken.{quota_falls, pairs_none, pairs_one, pairs_no_setup}
 
 pub quota_falls_at :
