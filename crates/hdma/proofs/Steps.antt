@@ -1,5 +1,5 @@
 -- The writes to FF51 to FF55 do what document 01 says of them (specs, `WriteSteps`). Assumes nothing.
-use Prim.Native.Nat.{ℕ, ◌<◌}
+use Prim.Native.Nat.{ℕ}
 use native.Mathlib.Omega.{arith}
 use mathlib.Core.Path.{◌≡◌, refl}
 use mathlib.Core.Bool.{Bool, true, false, cond}

@@ -5,7 +5,6 @@ use mathlib.Core.Path.{◌≡◌, refl, sym, subst}
 use mathlib.Core.Bool.{true, false}
 use mathlib.Core.List.{List}
 use mathlib.Core.Logic.{inl, inr}
-use lib.ListN.{get_or}
 use Rattle.console.specs.Set.{with_dmg_compat}
 use Rattle.console.specs.declared.Cgb.{Cgb}
 use Rattle.table.specs.Table.{◌▸◌}

@@ -1,10 +1,9 @@
 -- Writes leave at each address what document 01 says of it (specs, `MapWriteSteps`). Assumes nothing.
 use Prim.Native.Nat.{ℕ, ◌≤◌}
 use mathlib.Core.Path.{◌≡◌, refl}
-use mathlib.Core.Bool.{Bool, true, false, cond, and-false}
+use mathlib.Core.Bool.{true, false, and-false}
 use mathlib.Core.List.{List}
-use lib.ListN.{set}
-use Rattle.console.specs.Set.{with_dmg_compat, with_extra_oam}
+use Rattle.console.specs.Set.{with_dmg_compat}
 use Rattle.console.specs.declared.Cgb.{Cgb}
 use Rattle.registers.specs.Map.{Register, KEY0, KEY1, VBK, HDMA1, HDMA2, HDMA3, HDMA4, HDMA5, SVBK, FF72, FF73, FF74, FF75, Place, work_ram, banked_ram}
 use Rattle.registers.specs.Map.{extra_oam, register, dma_start, unmapped, place_of, writable, locks, locks_at}
@@ -12,8 +11,7 @@ use Rattle.registers.specs.MapSteps.{MappedWrite, LocksWrite}
 use Rattle.registers.proofs.Places.{at_oam}
 use Rattle.registers.proofs.MapSteps.{lock_map, not_lock, not_written}
 use Rattle.map_write.specs.Write.{register_written, state_at, wram_at, wram_after, stored_of, locked, map_write_of}
-use Rattle.map_write.specs.WriteSteps.{with_compat, MapWrites, RegisterWrites, PointerWrites, DmaStart, CompatWrites, MapWriteSteps}
-use Rattle.map_write.specs.declared.MapWritten.{MapWritten}
+use Rattle.map_write.specs.WriteSteps.{MapWrites, RegisterWrites, PointerWrites, DmaStart, CompatWrites, MapWriteSteps}
 use Rattle.map_write.specs.declared.WriteInput.{WriteInput}
 use Rattle.map_write.proofs.Ram as ram
 

@@ -1,7 +1,7 @@
 -- What an accepted read gives and what a write leaves, accepted or declined, as laws: what callers cite in place of the
 -- definitions. Assumes nothing.
 use Prim.Native.Nat.{ℕ}
-use mathlib.Core.Path.{◌≡◌, refl, ◌∙◌}
+use mathlib.Core.Path.{◌≡◌, refl}
 use mathlib.Core.Bool.{true, false}
 use mathlib.Core.List.{List}
 use lib.Dec.{eqb}
@@ -13,7 +13,7 @@ use Rattle.registers.specs.Map.{place_of, readable, writable, locks_at}
 use Rattle.map_read.specs.Read.{map_byte}
 use Rattle.map_write.specs.Write.{state_at, stored_of, map_write_of}
 use Rattle.map_write.specs.declared.WriteInput.{WriteInput}
-use Rattle.register_calls.specs.Access.{page_above, read_refusal, write_refusal, read_of, write_of}
+use Rattle.register_calls.specs.Access.{page_above, write_refusal, read_of, write_of}
 use Rattle.answers.specs.declared.ByteAnswer.TheVariants as byte
 use Rattle.answers.specs.declared.DoneAnswer.TheVariants as done
 use Rattle.register_calls.proofs.Says.{at_rest, at_none_write}

@@ -1,7 +1,7 @@
 -- The next pair and the escape drain answer with the causes that the request names (specs, `PairCallSteps`). Assumes nothing.
 use Prim.Native.Nat.{ℕ}
 use native.Mathlib.Omega.{arith}
-use mathlib.Core.Path.{◌≡◌, refl, sym, ap, subst, ◌∙◌}
+use mathlib.Core.Path.{◌≡◌, refl, ap, ◌∙◌}
 use mathlib.Core.Bool.{Bool, true, false, cond}
 use lib.Dec.{eqb}
 use Rattle.console.specs.Set.{with_vram_dma}
@@ -9,7 +9,6 @@ use Rattle.console.specs.declared.Cgb.{Cgb}
 use Rattle.transfer.specs.Pair.{next_byte_of, drain_of}
 use Rattle.transfer.specs.declared.pair.BytePair.{BytePair}
 use Rattle.transfer.specs.declared.pair.Cause.{Cause}
-use Rattle.transfer.specs.declared.pair.Cause.TheVariants.{CountedOut}
 use Rattle.transfer.specs.declared.pair.NextAnswer.{NextAnswer}
 use Rattle.transfer.specs.declared.pair.NextAnswer.TheVariants as next
 use Rattle.transfer.specs.declared.pair.NextByte.{NextByte}

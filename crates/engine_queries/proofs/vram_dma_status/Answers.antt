@@ -14,4 +14,4 @@ pub returns : goal.returns
 unfolding status_call_of
 returns c =
     let reached = sym c.if-unreached.ensures in
-    answers (status_told _) (ap status.Status c.status.ensures ∙ passed_7 status.Refused _ _ reached)
+    answers (status_told _) (ap status.Status c.status-status.ensures ∙ passed_7 status.Refused _ _ reached)
