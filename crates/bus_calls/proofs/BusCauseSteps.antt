@@ -1,5 +1,5 @@
 -- A bus call answers with the causes that the request names (specs, `BusCauseSteps`). Assumes nothing.
-use Prim.Native.Nat.{ℕ, ◌+◌, ◌%◌}
+use Prim.Native.Nat.{◌+◌, ◌%◌}
 use native.Mathlib.Omega.{arith}
 use mathlib.Core.Path.{◌≡◌, refl, ap}
 use mathlib.Core.Bool.{Bool, true, false, cond}
@@ -8,7 +8,6 @@ use lib.Dec.{eqb}
 use lib.ListN.{length}
 use Rattle.console.specs.Set.{with_vram_dma}
 use Rattle.console.specs.declared.Cgb.{Cgb}
-use Rattle.bus.specs.Commit.{bus_taken}
 use Rattle.bus.specs.declared.commit.BusInput.{BusInput}
 use Rattle.bus.proofs.BusSteps.{bus_steps}
 use Rattle.transfer.specs.declared.pair.Cause.{Cause}

@@ -11,7 +11,7 @@ use Rattle.console.specs.declared.Cgb.{Cgb}
 use Rattle.console.specs.declared.object.ObjectDma.{ObjectDma}
 use Rattle.bus.specs.Store.{oam_with}
 use Rattle.bus.specs.declared.arbitration.Arbitration.{Arbitration}
-use Rattle.bus.specs.declared.arbitration.Arbitration.TheVariants.{Clear, Contended, Stall}
+use Rattle.bus.specs.declared.arbitration.Arbitration.TheVariants.{Stall}
 use Rattle.answers.specs.declared.CycleAnswer.TheVariants.{Nothing}
 use Rattle.bus_calls.specs.BusCall.{lengths_of}
 use Rattle.bus_calls.proofs.BusCallSteps.{bus_refusals}

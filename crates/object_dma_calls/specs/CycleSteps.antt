@@ -10,7 +10,7 @@ use Rattle.bus.specs.declared.arbitration.Arbitration.{Arbitration}
 use Rattle.bus.specs.declared.arbitration.Arbitration.TheVariants.{Clear, Contended, Stall}
 use Rattle.object_dma.specs.ObjectDma.{runs}
 use Rattle.answers.specs.declared.CycleAnswer.TheVariants.{Nothing, Moved, PassedOver, Refused}
-use Rattle.bus_calls.specs.BusCall.{Lengths, lengths_of, banks_of}
+use Rattle.bus_calls.specs.BusCall.{lengths_of, banks_of}
 use Rattle.bus_calls.specs.BusCallSteps.{WholeSlices}
 use Rattle.answers.specs.declared.ObjectDmaAnswer.TheVariants as object
 use Rattle.object_dma_calls.specs.Cycle.{after_cycle, cycle_refusal, cycle_oam, cycle_of}
