@@ -1,5 +1,4 @@
-// Runs document 01's cases and declined inputs, and document 02's object DMA and estimate, through the public functions, a line for
-// each observation.
+// Runs document 01's cases and declined inputs, and document 02's object DMA, through the public calls, a line for each observation.
 // What the lines must say stands in the file stdout, written from the papers' numbers and rules.
 #![tactic(auto)]
 
@@ -8,7 +7,6 @@ mod calls;
 mod cuts;
 mod declined;
 mod deposit;
-mod estimates;
 mod general;
 mod grants;
 mod hblank;
@@ -38,7 +36,6 @@ fn moving(out: Stdout) {
 fn main(rt: HostRuntime) {
     let out = rt.stdout();
     map::map(out);
-    estimates::estimates(out);
     moving(out);
     grants::k9(out);
     declined::modes(out);

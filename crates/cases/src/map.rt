@@ -273,4 +273,6 @@ pub fn map(out: Stdout) {
     extra_rows(out, state);
     pointers(out, state);
     declined(out, state);
+    say::number(out, b"estimate of 00: ", estimate::estimate(0x00) as u32);
+    say::number(out, b"estimate of FF: ", estimate::estimate(0xFF) as u32);
 }

@@ -104,16 +104,6 @@ pub fn number(out: Stdout, label: &[u8], n: u32) {
     text(out, b"\n");
 }
 
-pub fn time(out: Stdout, label: &[u8], bytes: u16, single: u16, double: u16) {
-    text(out, label);
-    decimal(out, bytes as u64);
-    text(out, b", M-cycles ");
-    decimal(out, single as u64);
-    text(out, b", at double speed ");
-    decimal(out, double as u64);
-    text(out, b"\n");
-}
-
 fn yes_or_no(out: Stdout, flag: bool) {
     if flag {
         text(out, b"yes\n");
