@@ -7,6 +7,7 @@ use console::Cgb;
 use fall_edge::FallInput;
 use map_write::WriteInput;
 use speed_switch::switch::SwitchInput;
+use std::rt::Stdout;
 
 fn write(state: Cgb, address: u16, input: WriteInput) -> Cgb {
     let mut wram = [0u8; 32768];
@@ -52,7 +53,7 @@ pub fn start_object_dma(state: Cgb, page: u8, start_edge: u64) -> Cgb {
 }
 
 // A write with the LCD on, with a line for its answer.
-pub fn written(state: Cgb, address: u16, value: u8) -> Cgb {
+pub fn written(out: Stdout, state: Cgb, address: u16, value: u8) -> Cgb {
     let mut wram = [0u8; 32768];
     let input = WriteInput {
         value: value,
@@ -61,17 +62,17 @@ pub fn written(state: Cgb, address: u16, value: u8) -> Cgb {
     };
     let w = engine::write(state, &mut wram, address, input);
     let answer = w.answer;
-    say::done(answer);
+    say::done(out, answer);
     w.state
 }
 
-pub fn read(state: Cgb, address: u16) {
+pub fn read(out: Stdout, state: Cgb, address: u16) {
     let wram = [0u8; 32768];
-    say::byte(engine::read(state, &wram, address));
+    say::byte(out, engine::read(state, &wram, address));
 }
 
-pub fn tally(state: Cgb) {
-    say::tally(engine::tally(state));
+pub fn tally(out: Stdout, state: Cgb) {
+    say::tally(out, engine::tally(state));
 }
 
 // A fall, running or halted, with nothing else going on.
@@ -107,47 +108,47 @@ pub fn fallen_at(state: Cgb, mode: u8, master_edge: u64) -> Cgb {
     engine::vram_dma_fall_edge(state, input).state
 }
 
-fn arbitrated(a: Arbitrated) -> Cgb {
+fn arbitrated(out: Stdout, a: Arbitrated) -> Cgb {
     let answer = a.answer;
-    say::arbitrated(answer);
+    say::arbitrated(out, answer);
     a.state
 }
 
 // Arbitration of a held bus while OAM DMA drives a byte.
-pub fn arbitrate(state: Cgb) -> Cgb {
+pub fn arbitrate(out: Stdout, state: Cgb) -> Cgb {
     let input = ArbitrationInput {
         hold: true,
         suspended: false,
         oam_transferring: true,
     };
-    arbitrated(engine::vram_dma_arbitrate_oam(state, input))
+    arbitrated(out, engine::vram_dma_arbitrate_oam(state, input))
 }
 
 // Arbitration with object DMA as the state has it.
-pub fn arbitrate_inside(state: Cgb, hold: bool) -> Cgb {
+pub fn arbitrate_inside(out: Stdout, state: Cgb, hold: bool) -> Cgb {
     let input = HoldInput {
         hold: hold,
         suspended: false,
     };
-    arbitrated(engine::vram_dma_arbitrate_inside(state, input))
+    arbitrated(out, engine::vram_dma_arbitrate_inside(state, input))
 }
 
-fn handed(h: Handed) -> Cgb {
+fn handed(out: Stdout, h: Handed) -> Cgb {
     let answer = h.answer;
-    say::pair(answer);
+    say::pair(out, answer);
     h.state
 }
 
-pub fn next(state: Cgb) -> Cgb {
-    handed(engine::next_byte(state))
+pub fn next(out: Stdout, state: Cgb) -> Cgb {
+    handed(out, engine::next_byte(state))
 }
 
-pub fn drain_escape(state: Cgb) -> Cgb {
-    handed(engine::vram_dma_drain_escape(state))
+pub fn drain_escape(out: Stdout, state: Cgb) -> Cgb {
+    handed(out, engine::vram_dma_drain_escape(state))
 }
 
 // An attempt with no interrupt ready.
-pub fn switch(state: Cgb, dot_phase: u8, hold: bool) -> Cgb {
+pub fn switch(out: Stdout, state: Cgb, dot_phase: u8, hold: bool) -> Cgb {
     let input = SwitchInput {
         hold: hold,
         dot_phase: dot_phase,
@@ -156,7 +157,7 @@ pub fn switch(state: Cgb, dot_phase: u8, hold: bool) -> Cgb {
     };
     let switched = engine::attempt_speed_switch(state, input);
     let answer = switched.answer;
-    say::switched(answer);
+    say::switched(out, answer);
     switched.state
 }
 
@@ -164,5 +165,5 @@ pub fn switch(state: Cgb, dot_phase: u8, hold: bool) -> Cgb {
 pub fn same(a: Cgb, b: Cgb) -> bool {
     let before = codec::encode(a);
     let after = codec::encode(b);
-    check::same(&before, &after)
+    before == after
 }

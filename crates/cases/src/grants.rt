@@ -2,6 +2,7 @@
 use crate::{calls, say};
 use answers::ClaimAnswer;
 use console::Cgb;
+use std::rt::Stdout;
 
 // Where the run stands; from the first refusal on it does not go on.
 #[derive(Clone, Copy)]
@@ -88,19 +89,19 @@ fn first_refusal(start: Course) -> Course {
     c
 }
 
-fn tell(c: Course) {
-    say::number(b"first refusal in round: ", c.round as u32);
-    say::number(b"fall: ", c.fall as u32);
-    say::number(b"refused: ", c.refused as u32);
-    say::yes(b"state as before: ", c.kept);
+fn tell(out: Stdout, c: Course) {
+    say::number(out, b"first refusal in round: ", c.round as u32);
+    say::number(out, b"fall: ", c.fall as u32);
+    say::number(out, b"refused: ", c.refused as u32);
+    say::yes(out, b"state as before: ", c.kept);
 }
 
-pub fn k9() {
-    say::case(b"K9");
+pub fn k9(out: Stdout) {
+    say::case(out, b"K9");
     let c = first_refusal(begin(calls::set(engine::power_on(false), 0xFF55, 0xFF)));
-    tell(c);
-    say::label(b"tally: ");
-    calls::tally(c.state);
-    say::label(b"FF55: ");
-    calls::read(c.state, 0xFF55);
+    tell(out, c);
+    say::label(out, b"tally: ");
+    calls::tally(out, c.state);
+    say::label(out, b"FF55: ");
+    calls::read(out, c.state, 0xFF55);
 }

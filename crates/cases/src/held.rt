@@ -4,6 +4,7 @@ use answers::{BusAnswer, BusOutcome};
 use bus::commit::BusInput;
 use bus::hold::HoldInput;
 use console::Cgb;
+use std::rt::Stdout;
 use transfer::pair::{BytePair, Cause};
 
 fn count(answer: BusAnswer) -> u8 {
@@ -13,29 +14,30 @@ fn count(answer: BusAnswer) -> u8 {
     }
 }
 
-fn told(there: bool, pair: BytePair, byte: u8, cause: Cause) {
+fn told(out: Stdout, there: bool, pair: BytePair, byte: u8, cause: Cause) {
     if there {
-        say::moved_pair(pair, byte, cause);
+        say::moved_pair(out, pair, byte, cause);
     }
 }
 
 // The pairs in order, as many as the answer says.
-fn tell(b: BusOutcome) -> Cgb {
+fn tell(out: Stdout, b: BusOutcome) -> Cgb {
     let answer = b.answer;
     let pairs = b.pairs;
     let bytes = b.bytes;
     let causes = b.causes;
     let first = causes.first;
     let second = causes.second;
-    say::bussed(answer);
+    say::bussed(out, answer);
     let n = count(answer);
-    told(n > 0, pairs[0], bytes[0], first);
-    told(n > 1, pairs[1], bytes[1], second);
+    told(out, n > 0, pairs[0], bytes[0], first);
+    told(out, n > 1, pairs[1], bytes[1], second);
     b.state
 }
 
 // Beside an OAM DMA that started at this edge.
 pub fn beside(
+    out: Stdout,
     state: Cgb,
     oam_start_edge: u64,
     cartridge: &[u8; 40960],
@@ -49,19 +51,19 @@ pub fn beside(
         oam_start_edge: oam_start_edge,
     };
     let b = engine::vram_dma_commit_bytes(state, input, cartridge, &wram, vram, oam);
-    tell(b)
+    tell(out, b)
 }
 
 // In memory of its own.
-pub fn alone(state: Cgb) -> Cgb {
+pub fn alone(out: Stdout, state: Cgb) -> Cgb {
     let cartridge = lent::cartridge();
     let mut vram = [0u8; 16384];
     let mut oam = [0u8; 160];
-    beside(state, 0, &cartridge, &mut vram, &mut oam)
+    beside(out, state, 0, &cartridge, &mut vram, &mut oam)
 }
 
 // Likewise, with object DMA's start edge as the state has it; behind the pairs the first places of OAM.
-pub fn inside(state: Cgb) -> Cgb {
+pub fn inside(out: Stdout, state: Cgb) -> Cgb {
     let cartridge = lent::cartridge();
     let wram = [0u8; 32768];
     let mut vram = [0u8; 16384];
@@ -73,7 +75,7 @@ pub fn inside(state: Cgb) -> Cgb {
     let b = engine::vram_dma_commit_bytes_inside(
         state, input, &cartridge, &wram, &mut vram, &mut oam,
     );
-    let after = tell(b);
-    say::row(b"OAM from FE00:", &oam, 6);
+    let after = tell(out, b);
+    say::row(out, b"OAM from FE00:", &oam, 6);
     after
 }

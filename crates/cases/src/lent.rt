@@ -1,5 +1,6 @@
 // Memory that is lent to bus calls: a cartridge whose bytes tell their addresses, VRAM and OAM of zeros.
 use crate::say;
+use std::rt::Stdout;
 
 // Each byte is the low byte of its address and 40h, so that none that the cases read is 0.
 pub fn cartridge() -> [u8; 40960] {
@@ -25,11 +26,11 @@ fn count(memory: &[u8]) -> u32 {
     n
 }
 
-pub fn stored_of(vram: &[u8], oam: &[u8]) {
-    say::number(b"bytes stored in VRAM: ", count(vram));
-    say::number(b"bytes stored in OAM: ", count(oam));
+pub fn stored_of(out: Stdout, vram: &[u8], oam: &[u8]) {
+    say::number(out, b"bytes stored in VRAM: ", count(vram));
+    say::number(out, b"bytes stored in OAM: ", count(oam));
 }
 
-pub fn stored(vram: &[u8; 16384], oam: &[u8; 160]) {
-    stored_of(vram, oam);
+pub fn stored(out: Stdout, vram: &[u8; 16384], oam: &[u8; 160]) {
+    stored_of(out, vram, oam);
 }

@@ -3,6 +3,7 @@ use crate::{calls, say};
 use answers::PairAnswer;
 use arithmetic::step::saturating_inc;
 use console::Cgb;
+use std::rt::Stdout;
 use transfer::pair::{BytePair, Cause};
 
 // A transfer under way, with what has come of it.
@@ -69,12 +70,12 @@ pub fn until(start: Run, wanted: u8) -> Run {
     run
 }
 
-fn tell(run: Run) {
-    say::number(b"pairs: ", run.pairs as u32);
-    say::number(b"falls: ", run.falls as u32);
+fn tell(out: Stdout, run: Run) {
+    say::number(out, b"pairs: ", run.pairs as u32);
+    say::number(out, b"falls: ", run.falls as u32);
     let last = run.last;
     let cause = run.cause;
-    say::some_pair(b"last pair: ", last, cause);
+    say::some_pair(out, b"last pair: ", last, cause);
 }
 
 fn general(high: u8, low: u8, length: u8) -> Run {
@@ -84,31 +85,31 @@ fn general(high: u8, low: u8, length: u8) -> Run {
 }
 
 // Nothing is left: another fall brings no pair.
-fn ended(state: Cgb) {
-    say::label(b"tally: ");
-    calls::tally(state);
-    say::label(b"FF55: ");
-    calls::read(state, 0xFF55);
-    say::label(b"a fall, next pair: ");
-    let _after = calls::next(calls::fallen(state, 3));
+fn ended(out: Stdout, state: Cgb) {
+    say::label(out, b"tally: ");
+    calls::tally(out, state);
+    say::label(out, b"FF55: ");
+    calls::read(out, state, 0xFF55);
+    say::label(out, b"a fall, next pair: ");
+    let _after = calls::next(out, calls::fallen(state, 3));
 }
 
-pub fn k4() {
-    say::case(b"K4");
+pub fn k4(out: Stdout) {
+    say::case(out, b"K4");
     let first = until(general(0xFF, 0xF0, 0x01), 1);
-    tell(first);
+    tell(out, first);
     let all = until(first, 16);
-    tell(all);
-    ended(all.state);
+    tell(out, all);
+    ended(out, all.state);
 }
 
-pub fn k5() {
-    say::case(b"K5");
+pub fn k5(out: Stdout) {
+    say::case(out, b"K5");
     let row = until(general(0x9F, 0xF0, 0x01), 16);
-    tell(row);
+    tell(out, row);
     let folded = until(row, 17);
-    tell(folded);
+    tell(out, folded);
     let all = until(folded, 32);
-    tell(all);
-    ended(all.state);
+    tell(out, all);
+    ended(out, all.state);
 }

@@ -9,8 +9,12 @@ ghost use Rattle.judge.specs.Turn.{in_buffer, Turns};
 use board_log::judging::Judge;
 use board_log::verdict::Verdict;
 use board_log::{judging, verdict};
-use libc::STDOUT_FILENO;
 use log_parts::judge_part;
+use std::env::FillError;
+use std::fs;
+use std::fs::File;
+use std::io::{Read, Write};
+use std::rt::Env;
 
 // The bytes of a file that wait in its buffer, from one place up to another.
 #[derive(Clone, Copy)]
@@ -29,22 +33,25 @@ struct Turned {
     failed: bool,
 }
 
-// The file that an argument names, open for reading, or below 0.
-fn opened(argument: usize) -> i32 {
-    let mut path = io::buffer();
-    let n = os::arg(argument, &mut path);
-    if os::errno() != 0 {
-        return -1;
-    }
-    os::open_read(&path[..n])
+// The file that an argument names, open for reading, if it can be.
+fn opened(rt: &HostRuntime, argument: usize) -> Option<File> {
+    let mut path = [0u8; 4096];
+    let Ok(n) = rt.arg(argument, &mut path) else {
+        return None;
+    };
+    // std opens no file whose name is not UTF-8
+    let Ok(name) = str::from_utf8(&path[..n]) else {
+        return None;
+    };
+    fs::open(rt, name).ok()
 }
 
 // A file is read where less than a record of it waits; then what is whole in both is judged. No turn comes after one in which such a
 // file brought nothing: no whole record is left in both, and of a longer file some bytes wait.
-fn turn(
+fn turn<R: Read>(
     j: Judge,
-    script_fd: i32,
-    log_fd: i32,
+    script_file: &mut R,
+    log_file: &mut R,
     script_waits: Waiting,
     log_waits: Waiting,
     turns: u64,
@@ -60,8 +67,14 @@ fn turn(
     ensures turns_lt_turns { result.turns < turns }
     ensures turns { Turns j wram.old (in_buffer script.old script_waits) (in_buffer log.old log_waits) result script.new log.new wram.new }
 {
-    let s = stream::refill(script_fd, script, script_waits.from, script_waits.stop, 16);
-    let l = stream::refill(log_fd, log, log_waits.from, log_waits.stop, 16);
+    let s = stream::refill(
+        script_file,
+        script,
+        script_waits.from,
+        script_waits.stop,
+        16,
+    );
+    let l = stream::refill(log_file, log, log_waits.from, log_waits.stop, 16);
     let script_from = s.from;
     let script_stop = s.stop;
     let log_from = l.from;
@@ -91,9 +104,9 @@ fn turn(
     }
 }
 
-fn judged(script_fd: i32, log_fd: i32) -> Verdict {
-    let mut script = io::large_buffer();
-    let mut log = io::large_buffer();
+fn judged<R: Read>(script_file: &mut R, log_file: &mut R) -> Verdict {
+    let mut script = [0u8; 65536];
+    let mut log = [0u8; 65536];
     let mut wram = [0u8; 32768];
     let mut judge = judging::begin();
     let mut script_waits = Waiting { from: 0, stop: 0 };
@@ -103,8 +116,8 @@ fn judged(script_fd: i32, log_fd: i32) -> Verdict {
     while turns > 0 {
         let t = turn(
             judge,
-            script_fd,
-            log_fd,
+            script_file,
+            log_file,
             script_waits,
             log_waits,
             turns,
@@ -128,21 +141,30 @@ fn judged(script_fd: i32, log_fd: i32) -> Verdict {
     )
 }
 
-fn answer() -> Verdict {
-    // the program's own name is counted
-    if os::arg_count() != 3 {
-        return Verdict::Refused;
-    }
-    let script = opened(1);
-    let log = opened(2);
-    if (script < 0) | (log < 0) {
-        return Verdict::Refused;
-    }
-    judged(script, log)
+// Whether there are two arguments, behind the program's own name, which is number 0.
+fn has_two_arguments(rt: &impl Env) -> bool {
+    has_argument(rt, 2) && !has_argument(rt, 3)
 }
 
-fn main() {
+fn has_argument(rt: &impl Env, argument: usize) -> bool {
+    let mut name = [0u8; 16];
+    !matches!(rt.arg(argument, &mut name), Err(FillError::NotPresent))
+}
+
+fn answer(rt: &HostRuntime) -> Verdict {
+    if !has_two_arguments(rt) {
+        return Verdict::Refused;
+    }
+    let script = opened(rt, 1);
+    let log = opened(rt, 2);
+    match (script, log) {
+        (Some(mut script_file), Some(mut log_file)) => judged(&mut script_file, &mut log_file),
+        _ => Verdict::Refused,
+    }
+}
+
+fn main(rt: HostRuntime) {
     let mut line = [0u8; 32];
-    let n = verdict::put_verdict(&mut line, 0, answer());
-    io::write_all(STDOUT_FILENO, &line[0..n]);
+    let n = verdict::put_verdict(&mut line, 0, answer(&rt));
+    let _ = rt.stdout().write_all(&line[0..n]);
 }

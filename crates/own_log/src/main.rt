@@ -7,8 +7,10 @@ ghost use Rattle.std.specs.Prelude.{◌<◌, ◌≤◌, ◌≡◌, length, take}
 ghost use Rattle.own_log.specs.Turn.{LogTurns};
 
 use console::Cgb;
-use libc::{STDERR_FILENO, STDIN_FILENO, STDOUT_FILENO};
 use log_parts::log_part;
+use std::env::FillError;
+use std::io::{Read, Write};
+use std::rt::Env;
 
 // After a read: the engine's state, how many bytes wait at the front of the buffer, how many reads may still come, and whether the
 // input could not be read or the output not be written.
@@ -22,7 +24,9 @@ struct Turned {
 }
 
 // One read: the log of the records that are whole then is written, and the rest goes to the front.
-fn turn(
+fn turn<R: Read, W: Write>(
+    input: &mut R,
+    output: &mut W,
     state: Cgb,
     waiting: usize,
     turns: u64,
@@ -34,13 +38,13 @@ fn turn(
     ensures waiting_bound { (result.waiting < 16) × (result.turns < turns) }
     ensures log_turns { LogTurns state wram.old (take waiting buf.old) out.old result buf.new wram.new out.new }
 {
-    let filled = stream::fill(STDIN_FILENO, buf, waiting);
+    let filled = stream::fill(input, buf, waiting);
     let bytes = filled.bytes;
     let unread = filled.failed;
     let logged = log_part::put_log(state, &buf[0..bytes], out, wram);
     let after = logged.state;
     let taken = logged.taken;
-    let written = stream::flush(STDOUT_FILENO, out, taken);
+    let written = stream::flush(output, out, taken);
     let later = stream::fewer(turns, (bytes > waiting) & written);
     let left = stream::to_front(buf, taken, bytes);
     Turned {
@@ -52,42 +56,37 @@ fn turn(
     }
 }
 
-fn say_short(bytes: usize) {
-    io::write_all(
-        STDERR_FILENO,
-        b"own_log: the script ends in a short record (",
+// Nothing is left to say where standard error cannot be written.
+fn say_short(rt: &impl Eprint, bytes: usize) {
+    let _ = eprintln!(rt;
+        "own_log: the script ends in a short record ({bytes} of 16 bytes), which has no record in the log"
     );
-    io::print_decimal(STDERR_FILENO, bytes as u64);
-    io::write_all(
-        STDERR_FILENO,
-        b" of 16 bytes), which has no record in the log\n",
-    );
+}
+
+fn say_line(rt: &impl Eprint, line: &str) {
+    let _ = eprintln!(rt; "own_log: the {line} to its end");
 }
 
 // What keeps the log from being that of the whole input, if anything does.
-fn say(waiting: usize, unread: bool, unwritten: bool) {
+fn say(rt: &impl Eprint, waiting: usize, unread: bool, unwritten: bool) {
     if unwritten {
-        io::write_all(
-            STDERR_FILENO,
-            b"own_log: the log could not be written to its end\n",
-        );
+        say_line(rt, "log could not be written");
         return;
     }
     if unread {
-        io::write_all(
-            STDERR_FILENO,
-            b"own_log: the script could not be read to its end\n",
-        );
+        say_line(rt, "script could not be read");
         return;
     }
     if waiting != 0 {
-        say_short(waiting);
+        say_short(rt, waiting);
     }
 }
 
-fn log_input() {
-    let mut buf = io::large_buffer();
-    let mut out = io::large_buffer();
+fn log_input(rt: &HostRuntime) {
+    let mut input = rt.stdin();
+    let mut output = rt.stdout();
+    let mut buf = [0u8; 65536];
+    let mut out = [0u8; 65536];
     let mut wram = [0u8; 32768];
     let mut state = console::power_on::power_on(false);
     let mut waiting: usize = 0;
@@ -95,21 +94,35 @@ fn log_input() {
     let mut unwritten = false;
     let mut turns = u64::MAX;
     while turns > 0 {
-        let t = turn(state, waiting, turns, &mut buf, &mut out, &mut wram);
+        let t = turn(
+            &mut input,
+            &mut output,
+            state,
+            waiting,
+            turns,
+            &mut buf,
+            &mut out,
+            &mut wram,
+        );
         state = t.state;
         waiting = t.waiting;
         unread = t.unread;
         unwritten = t.unwritten;
         turns = t.turns;
     }
-    say(waiting, unread, unwritten);
+    say(rt, waiting, unread, unwritten);
 }
 
-fn main() {
-    // the program's own name is counted
-    if os::arg_count() > 1 {
-        io::write_all(STDERR_FILENO, b"usage: own_log <SCRIPT >LOG\n");
+// Whether there is an argument behind the program's own name, which is number 0.
+fn has_argument(rt: &impl Env) -> bool {
+    let mut name = [0u8; 16];
+    !matches!(rt.arg(1, &mut name), Err(FillError::NotPresent))
+}
+
+fn main(rt: HostRuntime) {
+    if has_argument(&rt) {
+        let _ = eprintln!(rt; "usage: own_log <SCRIPT >LOG");
         return;
     }
-    log_input();
+    log_input(&rt);
 }

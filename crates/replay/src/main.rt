@@ -6,8 +6,8 @@
 ghost use Rattle.std.specs.Prelude.{◌≡◌, ◌-◌, ◌*◌, ◌/◌, ◌<◌, ◌≤◌, length, if◌then◌else◌};
 
 use console::Cgb;
-use libc::{STDIN_FILENO, STDOUT_FILENO};
 use replay_step::{line, read, step};
+use std::io::{Read, Write};
 
 // Below this many bytes the output buffer still takes a line whole.
 const NEARLY_FULL: usize = 65000;
@@ -30,7 +30,7 @@ struct Turned {
 }
 
 // The records of one part of the input, with their lines written.
-fn feed(r: Replay, part: &[u8], out: &mut [u8], wram: &mut [u8]) -> Replay
+fn feed<W: Write>(output: &mut W, r: Replay, part: &[u8], out: &mut [u8], wram: &mut [u8]) -> Replay
     requires { length part.now ≤ 65536 }
 {
     let mut state = r.state;
@@ -41,14 +41,14 @@ fn feed(r: Replay, part: &[u8], out: &mut [u8], wram: &mut [u8]) -> Replay
         let stepped = step::perform(state, wram, read::record_of(&part[i..]));
         state = stepped.state;
         at = line::put_line(out, at, number, stepped.line);
-        number = std::num::wrapping_add_u64(number, 1);
+        number = number.wrapping_add(1);
         if at > NEARLY_FULL {
-            stream::flush(STDOUT_FILENO, out, at);
+            stream::flush(output, out, at);
             at = 0;
         }
         i += 16;
     }
-    stream::flush(STDOUT_FILENO, out, at);
+    stream::flush(output, out, at);
     Replay {
         state: state,
         number: number,
@@ -64,7 +64,9 @@ fn due(n: usize, more: bool) -> usize
 }
 
 // One turn: what waits goes to the front, and what one read brings is performed, or at the end of the input what waited.
-fn turn(
+fn turn<R: Read, W: Write>(
+    input: &mut R,
+    output: &mut W,
     r: Replay,
     from: usize,
     stop: usize,
@@ -79,12 +81,12 @@ fn turn(
     ensures turns_lt_turns { result.turns < turns }
 {
     let waiting = stream::to_front(buf, from, stop);
-    let filled = stream::fill(STDIN_FILENO, buf, waiting);
+    let filled = stream::fill(input, buf, waiting);
     let n = filled.bytes;
     let more = n > waiting;
     let end = due(n, more);
     let later = stream::fewer(turns, more);
-    let replay = feed(r, &buf[0..end], out, wram);
+    let replay = feed(output, r, &buf[0..end], out, wram);
     Turned {
         replay: replay,
         from: end,
@@ -93,9 +95,11 @@ fn turn(
     }
 }
 
-fn main() {
-    let mut buf = io::large_buffer();
-    let mut out = io::large_buffer();
+fn main(rt: HostRuntime) {
+    let mut input = rt.stdin();
+    let mut output = rt.stdout();
+    let mut buf = [0u8; 65536];
+    let mut out = [0u8; 65536];
     let mut wram = [0u8; 32768];
     let mut replay = Replay {
         state: engine::power_on(false),
@@ -105,7 +109,17 @@ fn main() {
     let mut stop: usize = 0;
     let mut turns = u64::MAX;
     while turns > 0 {
-        let t = turn(replay, from, stop, turns, &mut buf, &mut out, &mut wram);
+        let t = turn(
+            &mut input,
+            &mut output,
+            replay,
+            from,
+            stop,
+            turns,
+            &mut buf,
+            &mut out,
+            &mut wram,
+        );
         replay = t.replay;
         from = t.from;
         stop = t.stop;

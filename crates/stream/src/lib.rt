@@ -1,8 +1,10 @@
 // A file read in parts through a buffer of fixed size: bytes that are not used yet wait at its front, and a read brings more
-// behind them.
+// behind them. A file is any reader of std, or writer: standard input and output too.
 #![tactic(auto)]
 
 ghost use Rattle.std.specs.Prelude.{◌-◌, ◌<◌, ◌≤◌, min, max, false, cond, ◌≡◌, length, take, drop};
+
+use std::io::{Read, Write};
 
 // How many bytes stand in the buffer after a read, and whether the file could not be read. If no more than waited, and the buffer
 // is not full, the file ended or could not be read.
@@ -13,7 +15,7 @@ pub struct Filled {
 }
 
 // One read, behind the bytes that wait at the front; where there is no room, none.
-pub fn fill(fd: i32, buf: &mut [u8], waiting: usize) -> Filled
+pub fn fill<R: Read>(input: &mut R, buf: &mut [u8], waiting: usize) -> Filled
     ensures waiting_le_bytes { (waiting ≤ result.bytes) × (result.bytes ≤ max waiting (length buf.new)) }
     ensures buf_unchanged { take waiting buf.new ≡ take waiting buf.old }
 {
@@ -24,11 +26,15 @@ pub fn fill(fd: i32, buf: &mut [u8], waiting: usize) -> Filled
         };
     }
     let room = &mut buf[waiting..];
-    let got = libc::read(fd, room);
-    let bytes = waiting + io::count(got, room);
-    Filled {
-        bytes: bytes,
-        failed: got < 0,
+    match input.read(room) {
+        Ok(got) => Filled {
+            bytes: waiting + got,
+            failed: false,
+        },
+        Err(_) => Filled {
+            bytes: waiting,
+            failed: true,
+        },
     }
 }
 
@@ -74,7 +80,13 @@ pub struct Refilled {
 }
 
 // Where fewer than `enough` bytes wait, from one place up to another, they go to the front, and one read brings more behind them.
-pub fn refill(fd: i32, buf: &mut [u8], from: usize, stop: usize, enough: usize) -> Refilled
+pub fn refill<R: Read>(
+    input: &mut R,
+    buf: &mut [u8],
+    from: usize,
+    stop: usize,
+    enough: usize,
+) -> Refilled
     ensures from_le_stop { (result.from ≤ result.stop) × (result.stop ≤ length buf.new) }
     ensures from_bound { min stop (length buf.old) - from ≤ result.stop - result.from }
     ensures buf_after { take (min stop (length buf.old) - from) (drop result.from buf.new) ≡ take (min stop (length buf.old) - from) (drop from buf.old) }
@@ -89,7 +101,7 @@ pub fn refill(fd: i32, buf: &mut [u8], from: usize, stop: usize, enough: usize) 
         };
     }
     let front = to_front(buf, from, stop);
-    let filled = fill(fd, buf, front);
+    let filled = fill(input, buf, front);
     let bytes = filled.bytes;
     let failed = filled.failed;
     Refilled {
@@ -116,11 +128,11 @@ pub fn fewer(turns: u64, more: bool) -> u64
 }
 
 // The front of a buffer written out: whether all of it was.
-pub fn flush(fd: i32, out: &[u8], n: usize) -> bool
+pub fn flush<W: Write>(output: &mut W, out: &[u8], n: usize) -> bool
     ensures { length out.now < n → result ≡ false }
 {
     if n <= out.len() {
-        return io::write_all(fd, &out[0..n]);
+        return output.write_all(&out[0..n]).is_ok();
     }
     false
 }

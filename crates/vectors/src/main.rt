@@ -5,7 +5,7 @@
 mod lent;
 mod vector;
 
-use libc::{STDIN_FILENO, STDOUT_FILENO};
+use std::io::Read;
 
 // What has been replayed.
 #[derive(Clone, Copy)]
@@ -14,19 +14,11 @@ struct Tally {
     differences: u64,
 }
 
-fn number(label: &[u8], n: u64, end: &[u8]) {
-    let mut digits = [0u8; 20];
-    let k = io::decimal(n, &mut digits);
-    io::write_all(STDOUT_FILENO, label);
-    io::write_all(STDOUT_FILENO, &digits[0..k]);
-    io::write_all(STDOUT_FILENO, end);
-}
-
 // The first twenty differences are told; all are counted.
-fn differs(t: Tally, kind: u8) {
+fn differs(rt: &impl Print, t: Tally, kind: u8) {
     if t.differences < 20 {
-        number(b"record ", t.records, b", kind ");
-        number(b"", kind as u64, b" differs\n");
+        let n = t.records;
+        let _ = println!(rt; "record {n}, kind {kind} differs");
     }
 }
 
@@ -35,6 +27,7 @@ fn one_more(n: u64) -> u64 {
 }
 
 fn replay(
+    rt: &impl Print,
     t: Tally,
     vector: &[u8; 568],
     cartridge: &mut [u8],
@@ -44,7 +37,7 @@ fn replay(
 ) -> Tally {
     let same = vector::agrees(vector, cartridge, wram, vram, oam);
     if !same {
-        differs(t, vector[0]);
+        differs(rt, t, vector[0]);
     }
     let missed = if same {
         t.differences
@@ -59,6 +52,7 @@ fn replay(
 
 // A number of turns that no input reaches: a loop has to end.
 fn replay_all(
+    rt: &HostRuntime,
     start: Tally,
     cartridge: &mut [u8],
     wram: &mut [u8],
@@ -66,20 +60,20 @@ fn replay_all(
     oam: &mut [u8],
 ) -> Tally {
     let mut t = start;
+    let mut input = rt.stdin();
     let mut turns: u64 = 1_000_000_000_000;
     let mut vector = [0u8; 568];
     while turns > 0 {
-        let got = io::read_full(STDIN_FILENO, &mut vector);
-        if got < 568 {
+        if input.read_exact(&mut vector).is_err() {
             return t;
         }
-        t = replay(t, &vector, cartridge, wram, vram, oam);
+        t = replay(rt, t, &vector, cartridge, wram, vram, oam);
         turns -= 1;
     }
     t
 }
 
-fn main() {
+fn main(rt: HostRuntime) {
     let mut cartridge = [0u8; 40961];
     let mut wram = [0u8; 32769];
     let mut vram = [0u8; 16385];
@@ -88,7 +82,8 @@ fn main() {
         records: 0,
         differences: 0,
     };
-    let end = replay_all(start, &mut cartridge, &mut wram, &mut vram, &mut oam);
-    number(b"", end.records, b" records, ");
-    number(b"", end.differences, b" differ\n");
+    let end = replay_all(&rt, start, &mut cartridge, &mut wram, &mut vram, &mut oam);
+    let records = end.records;
+    let differences = end.differences;
+    let _ = println!(rt; "{records} records, {differences} differ");
 }

@@ -20,14 +20,12 @@ fn state_before(vector: &[u8; 568]) -> [u8; 248] {
 }
 
 fn state_agrees(vector: &[u8; 568], state: &[u8; 248]) -> bool {
-    let bytes = &vector[..];
-    check::same(&bytes[304..552], state)
+    &vector[304..552] == state.as_slice()
 }
 
 // The result stands in front of the answer.
 fn answer_agrees(vector: &[u8; 568], res: u8, answer: &[u8; 24]) -> bool {
-    let bytes = &vector[..];
-    (res == answer[0]) & check::same(&bytes[280..304], answer)
+    (res == answer[0]) & (&vector[280..304] == answer.as_slice())
 }
 
 // Whether the entry's answer is the original's; it leaves the state.
