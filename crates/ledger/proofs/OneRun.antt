@@ -5,7 +5,7 @@ use mathlib.Core.Path.{◌≡◌, refl, sym, ap, subst, ◌∙◌}
 use mathlib.Core.List.{List, [], ◌∷◌}
 use lib.ListN.{length, replicate, length-replicate}
 use contract.Lifetimes.{Lfts}
-use denote.Ref.{Bor}
+use denote.Ref.{Bor, MutBor}
 use Rattle.console.specs.PowerOn.{power_on_of}
 use Rattle.console.specs.declared.Cgb.{Cgb}
 use Rattle.bus.specs.declared.arbitration.Arbitration.{Arbitration}
@@ -29,6 +29,10 @@ use Rattle.engine.proofs.Says as told
 -- a slice of these bytes
 slice : List ℕ → Bor (List ℕ)
 slice bytes = record { ref_ptr = (0, 0); now = bytes }
+
+-- and one that a call may write
+lent : List ℕ → MutBor (List ℕ)
+lent bytes = record { ref_ptr = (0, 0); ghost_name = 0; now = bytes }
 
 κ1 : Lfts 1
 κ1 = ([], tt)
@@ -59,12 +63,12 @@ sized_four P n f =
 
 module _ (s : Cgb) where
   write_some : (a : ℕ) (w : WriteInput) (byte : _) (wram : List ℕ) → Some s (Calls.write a w (length wram) byte)
-  unfolding slice κ1
+  unfolding lent κ1
   write_some a w byte wram =
       some_by
-      (Code.by_write κ1 (slice wram) a w byte (write_of s w a (length wram))
+      (Code.by_write κ1 (lent wram) a w byte (write_of s w a (length wram))
       (record {
-        exit = (s, (slice (write_wram s w a wram), (a, (w, tt))));
+        exit = (s, (lent (write_wram s w a wram), (a, (w, tt))));
         told = record { result = refl; says = told.write_told s w a (length wram); memory = refl };
       }))
 
@@ -76,13 +80,13 @@ module _ (s : Cgb) where
       (record { exit = (s, (slice wram, (a, tt))); told = record { is = refl; says = told.read_told s wram a } }))
 
   bus_some : (i : BusInput) (c w v o : List ℕ) → Some s (Calls.bus_call i (lengths_of c w v o))
-  unfolding slice κ4
+  unfolding slice lent κ4
   bus_some i c w v o =
       let n = lengths_of c w v o in
       some_by
-      (Code.by_bus_call κ4 i (slice c) (slice w) (slice v) (slice o) (bus_of s i c w v o)
+      (Code.by_bus_call κ4 i (slice c) (slice w) (lent v) (lent o) (bus_of s i c w v o)
       (record {
-        exit = (s, (i, (slice c, (slice w, (slice (bus_vram s i n c w v), (slice (bus_oam s i n c w o), tt))))));
+        exit = (s, (i, (slice c, (slice w, (lent (bus_vram s i n c w v), (lent (bus_oam s i n c w o), tt))))));
         told =
             record {
               result = refl;
@@ -94,14 +98,14 @@ module _ (s : Cgb) where
       }))
 
   bus_inside_some : (i : HoldInput) (c w v o : List ℕ) → Some s (Calls.bus_call_inside i (lengths_of c w v o))
-  unfolding slice κ4
+  unfolding slice lent κ4
   bus_inside_some i c w v o =
       let n = lengths_of c w v o in
       let given = inside_bus s i in
       some_by
-      (Code.by_bus_call_inside κ4 i (slice c) (slice w) (slice v) (slice o) (bus_of s given c w v o)
+      (Code.by_bus_call_inside κ4 i (slice c) (slice w) (lent v) (lent o) (bus_of s given c w v o)
       (record {
-        exit = (s, (i, (slice c, (slice w, (slice (bus_vram s given n c w v), (slice (bus_oam s given n c w o), tt))))));
+        exit = (s, (i, (slice c, (slice w, (lent (bus_vram s given n c w v), (lent (bus_oam s given n c w o), tt))))));
         told =
             record {
               result = refl;
@@ -113,12 +117,12 @@ module _ (s : Cgb) where
       }))
 
   cycle_some : (a : Arbitration) (c w v o : List ℕ) → Some s (Calls.object_dma_cycle a (lengths_of c w v o))
-  unfolding slice κ4
+  unfolding slice lent κ4
   cycle_some a c w v o =
       some_by
-      (Code.by_object_dma_cycle κ4 a (slice c) (slice w) (slice v) (slice o) (cycle_of s a c w v o)
+      (Code.by_object_dma_cycle κ4 a (slice c) (slice w) (slice v) (lent o) (cycle_of s a c w v o)
       (record {
-        exit = (s, (a, (slice c, (slice w, (slice v, (slice (cycle_oam s a (lengths_of c w v o) c w v o), tt))))));
+        exit = (s, (a, (slice c, (slice w, (slice v, (lent (cycle_oam s a (lengths_of c w v o) c w v o), tt))))));
         told = record { result = refl; says = told.cycle_told s a c w v o; stored = refl };
       }))
 

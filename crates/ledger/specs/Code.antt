@@ -2,7 +2,7 @@
 -- (tools/calls compares the lists; the queries' are in Answered), with slices of any contents.
 use Rattle.std.specs.Prelude.{ℕ, Bool, List, T, ltb, length}
 use contract.Lifetimes.{Lfts}
-use Rattle.std.specs.Borrow.{Bor}
+use Rattle.std.specs.Borrow.{Bor, MutBor}
 use Rattle.console.specs.declared.Cgb.{Cgb}
 use Rattle.bus.specs.declared.arbitration.Arbitration.{Arbitration}
 use Rattle.bus.specs.declared.arbitration.ArbitrationInput.{ArbitrationInput}
@@ -41,7 +41,7 @@ power_on = record { lifetimes = 0; parameters = power_on_kinds.ps; result = powe
 -- at the state s, this call may return so
 pub data Returned (s : Cgb) : Call → Outcome → Type 0 where
   by_write :
-      (κs : Lfts 1) (wram : Bor (List ℕ)) (a : ℕ) (w : WriteInput) (byte : T (ltb w.value 256)) (r : Done) →
+      (κs : Lfts 1) (wram : MutBor (List ℕ)) (a : ℕ) (w : WriteInput) (byte : T (ltb w.value 256)) (r : Done) →
       Gives write κs (s, (wram, (a, (w, tt)))) r → Returned s (Calls.write a w (length wram.now) byte) (of_done r)
   by_read :
       (κs : Lfts 1) (wram : Bor (List ℕ)) (a : ℕ) (r : ByteAnswer) →
@@ -50,7 +50,7 @@ pub data Returned (s : Cgb) : Call → Outcome → Type 0 where
   by_next_pair : (r : Handed) → Gives next_byte tt (s, tt) r → Returned s Calls.next_pair (of_handed r)
   by_escape_drain : (r : Handed) → Gives vram_dma_drain_escape tt (s, tt) r → Returned s Calls.escape_drain (of_handed r)
   by_bus_call :
-      (κs : Lfts 4) (i : BusInput) (cartridge wram vram oam : Bor (List ℕ)) (r : BusOutcome) →
+      (κs : Lfts 4) (i : BusInput) (cartridge wram : Bor (List ℕ)) (vram oam : MutBor (List ℕ)) (r : BusOutcome) →
       Gives vram_dma_commit_bytes κs (s, (i, (cartridge, (wram, (vram, (oam, tt)))))) r →
       Returned s (Calls.bus_call i (lengths_of cartridge.now wram.now vram.now oam.now)) (of_bussed r)
   by_switch_speed : (i : SwitchInput) (r : Switched) → Gives attempt_speed_switch tt (s, (i, tt)) r → Returned s (Calls.switch_speed i) (of_switched r)
@@ -65,10 +65,10 @@ pub data Returned (s : Cgb) : Call → Outcome → Type 0 where
       (i : HoldInput) (r : Arbitrated) → Gives vram_dma_arbitrate_inside tt (s, (i, tt)) r →
       Returned s (Calls.arbitrate_inside i) (of_arbitrated r)
   by_bus_call_inside :
-      (κs : Lfts 4) (i : HoldInput) (cartridge wram vram oam : Bor (List ℕ)) (r : BusOutcome) →
+      (κs : Lfts 4) (i : HoldInput) (cartridge wram : Bor (List ℕ)) (vram oam : MutBor (List ℕ)) (r : BusOutcome) →
       Gives vram_dma_commit_bytes_inside κs (s, (i, (cartridge, (wram, (vram, (oam, tt)))))) r →
       Returned s (Calls.bus_call_inside i (lengths_of cartridge.now wram.now vram.now oam.now)) (of_bussed r)
   by_object_dma_cycle :
-      (κs : Lfts 4) (a : Arbitration) (cartridge wram vram oam : Bor (List ℕ)) (r : Cycled) →
+      (κs : Lfts 4) (a : Arbitration) (cartridge wram vram : Bor (List ℕ)) (oam : MutBor (List ℕ)) (r : Cycled) →
       Gives object_dma_m_cycle κs (s, (a, (cartridge, (wram, (vram, (oam, tt)))))) r →
       Returned s (Calls.object_dma_cycle a (lengths_of cartridge.now wram.now vram.now oam.now)) (plain (cycled_says r) r.state)
