@@ -62,7 +62,7 @@ fn of_sixteen(bytes: [u8; 16]) -> Record
 }
 
 // The record at the start of some bytes; a short one is of no kind.
-#[tactic(auto, unfolding(crate::specs::Record::record_of, record::specs::Record::call_of, record::specs::Record::cycle_in, record::specs::Kind::plain_of, record::specs::Input::fall_input_of, record::specs::Input::switch_input_of, record::specs::Input::bus_input_of, record::specs::Input::arbitration_input_of, record::specs::Input::hold_input_of, crate::specs::Record::record_at_start))]
+#[tactic(auto, unfolding(crate::specs::Record::record_at_start))]
 pub fn record_of(bytes: &[u8]) -> Record
     ensures { result ≡ record_at_start bytes.now }
 {
