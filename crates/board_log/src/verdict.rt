@@ -34,7 +34,7 @@ fn put_number(out: &mut [u8], at: usize, number: u64) -> usize
     text::put(out, to, b'\n')
 }
 
-#[tactic(auto, unfolding(crate::specs::Verdict::verdict_text, text::specs::Text::decimal, text::specs::Text::decimal_within))]
+#[tactic(auto, unfolding(crate::specs::Verdict::verdict_text))]
 pub fn put_verdict(out: &mut [u8], at: usize, verdict: Verdict) -> usize
     ensures { Put out.old at (verdict_text verdict) result out.new }
 {
