@@ -13,7 +13,6 @@ use Rattle.board_log.specs.declared.judging.Fed.{Fed}
 use Rattle.board_log.proofs.Cut.{taken_both}
 use Rattle.judge.specs.Turn.{in_buffer, Turns}
 use Rattle.judge.specs.declared.Waiting.{Waiting}
-use Rattle.judge.specs.declared.Turned.{Turned}
 
 -- what waits once t bytes more of it are taken
 pub rest : (buffer : List ℕ) (from stop t : ℕ) → t ≤ stop - from →

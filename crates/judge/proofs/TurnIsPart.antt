@@ -5,10 +5,9 @@ use mathlib.Core.List.{List, ◌++◌}
 use native.Mathlib.Omega.{arith}
 use lib.ListN.{length, drop}
 use lib.Seq.{drop-append-le}
-use Rattle.board_log.specs.Judging.{hearing_of, Feeds}
+use Rattle.board_log.specs.Judging.{hearing_of}
 use Rattle.board_log.specs.JudgesInParts.{Shown, part}
 use Rattle.board_log.specs.declared.judging.Judge.{Judge}
-use Rattle.board_log.specs.declared.judging.Fed.{Fed}
 use Rattle.board_log.proofs.Cut.{taken_both}
 use Rattle.judge.specs.Turn.{in_buffer, Turns, TurnIsPart}
 use Rattle.judge.specs.declared.Turned.{Turned}
