@@ -1,5 +1,5 @@
 -- What each call gives and leaves, in the paper's order (document 01): the definitions that the promises of the calls speak of, passed
--- on from the crates that have them. Power-on's is `powerOnOf` of `console`; the answers' values are `Answers` of `answers`.
+-- on from the crates that have them. Power-on's is `power_on_of` of `console`; the answers' values are `Answers` of `answers`.
 
 -- section 1: register and WRAM reads and writes
 pub use Rattle.register_calls.specs.Access.{page_above, read_refusal, write_refusal, AnswersWrite}
