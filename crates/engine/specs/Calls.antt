@@ -17,7 +17,8 @@ pub use Rattle.bus_calls.specs.Bus.{arbitration_answer_of, arbitrated}
 unfoldable pub use Rattle.bus_calls.specs.Bus.{arbitration_call_of, arbitration_said}
 -- section 4: the switch, the escape drain, LCD off, the write conflict, blackout and wake
 pub use Rattle.speed_calls.specs.Speed.{switch_answer_of}
-unfoldable pub use Rattle.speed_calls.specs.Speed.{defers, switch_refusal, switch_call_of, switch_said, blackout_call_of, blackout_said, wake_call_of, wake_said}
+unfoldable pub use Rattle.speed_calls.specs.Speed.{defers, switch_refusal, switch_call_of, switch_said, blackout_call_of, blackout_said}
+unfoldable pub use Rattle.speed_calls.specs.Speed.{wake_call_of, wake_said}
 unfoldable pub use Rattle.transfer_calls.specs.Pair.{escape_drain_of, escape_drain_said}
 unfoldable pub use Rattle.transfer_calls.specs.Lcd.{done_said, lcd_call_of, retired_call_of}
 pub use Rattle.bus_calls.specs.Bus.{conflict_answer_of}
