@@ -4,7 +4,8 @@ use std::path::PathBuf;
 
 fn main() {
     println!("cargo:rerun-if-env-changed=BENCH_LIB");
-    let folder = env::var("BENCH_LIB").expect("set BENCH_LIB to the folder of libbench.a (rt staticlib bench)");
+    let folder = env::var("BENCH_LIB")
+        .expect("set BENCH_LIB to the folder of libbench.a (rt lib, in crates/bench: crates/bench/out)");
     let folder = PathBuf::from(folder).canonicalize().expect("BENCH_LIB names no folder");
     println!("cargo:rerun-if-changed={}", folder.join("libbench.a").display());
     println!("cargo:rustc-link-search=native={}", folder.display());

@@ -21,19 +21,15 @@ $1 == "slices" { slices[k] = $2; next }
 $1 == "answer" { answer[k] = $2; value[k] = $3; next }
 { text[k, $1] = substr($0, index($0, " ") + 1) }
 
-function hyphens(s) { gsub(/_/, "-", s); return s }
 function capital(s) { return toupper(substr(s, 1, 1)) substr(s, 2) }
 function camel(s,    parts, n, i, r) {
     n = split(s, parts, "_")
-    r = parts[1]
-    for (i = 2; i <= n; i++) r = r capital(parts[i])
+    for (i = 1; i <= n; i++) r = r capital(parts[i])
     return r
 }
-function answer_type(a) { return capital(camel(a)) "Answer" }
-function numbered(i) { return i == 1 ? "" : "-" i }
-function nth(i) { return i == 1 ? "" : i }
+function answer_type(a) { return camel(a) "Answer" }
 # what a query's answer is, by its definition
-function definition(a) { a = camel(a); return (a "CallOf") in home ? a "CallOf" : a "Of" }
+function definition(a) { return (a "_call_of") in home ? a "_call_of" : a "_of" }
 function defined(k) { return definition(answer[k]) " s" (value[k] == "" ? "" : " (" value[k] " s)") }
 function out(file) { to = made file; return to }
 function folder(file) { sub(/\/[^\/]*$/, "", file); system("mkdir -p '" made file "'") }
@@ -59,7 +55,7 @@ function use_lines(module, names,    list, n, i, line) {
     print "use " module ".{" line "}" > to
 }
 function answers_of(suffix,    i, r, seen) {
-    for (i = 1; i <= queries; i++) if (!(answer[query[i]] in seen)) { seen[answer[query[i]]]; r = r " " (suffix == "" ? answer[query[i]] : camel(answer[query[i]]) suffix) }
+    for (i = 1; i <= queries; i++) if (!(answer[query[i]] in seen)) { seen[answer[query[i]]]; r = r " " answer[query[i]] suffix }
     return substr(r, 2)
 }
 function definitions_of(    i, list, n, r) {
@@ -75,6 +71,7 @@ function values_of(    i, r) {
 function query_type(    i) {
     folder("crates/call/src/query.rt"); out("crates/call/src/query.rt")
     print "// What is asked of the state and changes nothing. Written by tools/calls from calls.txt." > to
+    print "#[derive(Clone, Copy)]" > to
     print "pub enum Query {" > to
     for (i = 1; i <= queries; i++) print "    " variant[query[i]] "," > to
     print "}" > to
@@ -84,15 +81,19 @@ function query_type(    i) {
 function ask_code(    i, k) {
     folder("crates/ask/src/lib.rt"); out("crates/ask/src/lib.rt")
     print "// Every query through one function. Written by tools/calls from calls.txt." > to
-    print "ghost use mathlib.Core.Path.{_≡_};" > to
-    print "ghost use Rattle·told.specs.Told.{toldOf};" > to
-    print "ghost use Rattle·ask·specs.specs.Ask.{askedOf};" > to
+    print "#![tactic(auto)]" > to
+    print "" > to
+    print "ghost use Rattle.std.specs.Prelude.{◌≡◌};" > to
+    print "ghost use Rattle.told.specs.Told.{told_of};" > to
+    print "ghost use Rattle.ask.specs.Ask.{asked_of};" > to
+    print "" > to
     print "use call::query::Query;" > to
     print "use console::Cgb;" > to
     print "use told::Told;" > to
     print "" > to
+    print "#[tactic(auto, unfolding(crate::specs::Ask::asked_of))]" > to
     print "pub fn ask(state: Cgb, query: Query) -> Told" > to
-    print "    ensures { λ r. ⌜ r ≡ toldOf (askedOf state query) ⌝ }" > to
+    print "    ensures { result ≡ told_of (asked_of state query) }" > to
     print "{" > to
     print "    match query {" > to
     for (i = 1; i <= queries; i++) { k = query[i]; print "        Query::" variant[k] " => told::of_" answer[k] "(" at[k] "(state))," > to }
@@ -104,79 +105,45 @@ function ask_code(    i, k) {
 function ask_spec(    i, k) {
     folder("crates/ask/specs/Ask.antt"); out("crates/ask/specs/Ask.antt")
     print "-- What each query says, by the definition that its contract cites. Written by tools/calls from calls.txt." > to
-    print "use Rattle·console.specs.declared.Cgb.{Cgb}" > to
-    uses("Said " answers_of("Says") " " definitions_of() values_of())
-    print "use Rattle·call.specs.declared.query.Query.{Query}" > to
-    print "use Rattle·call.specs.declared.query.Query.the-variants as query" > to
+    print "use Rattle.console.specs.declared.Cgb.{Cgb}" > to
+    uses("Said " answers_of("_says") " " definitions_of() values_of())
+    print "use Rattle.call.specs.declared.query.Query.{Query}" > to
+    print "use Rattle.call.specs.declared.query.Query.TheVariants as query" > to
     print "" > to
-    print "unfoldable pub askedOf : Cgb → Query → Said" > to
-    for (i = 1; i <= queries; i++) { k = query[i]; print "askedOf s query." variant[k] " = " camel(answer[k]) "Says (" defined(k) ")" > to }
+    print "unfoldable pub asked_of : Cgb → Query → Said" > to
+    for (i = 1; i <= queries; i++) { k = query[i]; print "asked_of s query." variant[k] " = " answer[k] "_says (" defined(k) ")" > to }
     close(to)
     out("crates/ask/specs/Lib.antt")
     print "pub mod Ask" > to
     close(to)
 }
 
-function ask_proof(    i, k, n) {
-    folder("crates/ask/proofs/ask/Proof.antt"); out("crates/ask/proofs/ask/Proof.antt")
-    print "-- `ask` meets its contract. Assumes nothing. Written by tools/calls from calls.txt." > to
-    print "use Rattle·ask·specs.specs.Ask.{askedOf}" > to
-    print "use borrow.Author.Needs.{needs}" > to
-    print "use Rattle·ask·proofs.proofs.ask.Statement.{statement}" > to
-    print "use Rattle·ask·proofs.proofs.ask.Tie as tie" > to
-    for (i = 1; i <= queries; i++) {
-        k = query[i]
-        n[answer[k]]++
-        print "" > to
-        print "returns" numbered(i) " : tie.Need-returns" numbered(i) > to
-        print "unfolding askedOf" > to
-        print "returns" numbered(i) " c =" > to
-        print "    rw (" > to
-        print "      c .of-" hyphens(answer[k]) nth(n[answer[k]]) " .ensures," > to
-        print "      c .before ." hyphens(fn[k]) " .ensures .is," > to
-        print "      c .before .before .enum-told" nth(i) " .given .1," > to
-        print "    )" > to
-    }
-    print "" > to
-    print "pub ask-spec : {M : Type 1} → statement M" > to
-    print "ask-spec =" > to
-    print "    tie.close" > to
-    print "    (tie.spec" > to
-    for (i = 1; i <= queries; i++) {
-        print "    (λ c. search needs)" > to
-        print "    (λ _ _. tt)" > to
-        print "    (λ _ _. tt)" > to
-    }
-    for (i = 1; i <= queries; i++) print "    returns" numbered(i) (i == queries ? ")" : "") > to
-    close(to)
-}
-
 # of one query: 7 or its values
-function said_by(k) { return "says-number " camel(answer[k]) "Says " camel(answer[k]) ".Refused (stateRefusal s) _ _ refl (λ n. refl)" }
+function said_by(k) { return "says_number " answer[k] "_says " answer[k] ".Refused (state_refusal s) _ _ refl (λ n. refl)" }
 function refused_uses(    i, a, list, n) {
     n = split(answers_of(""), list, " ")
-    for (i = 1; i <= n; i++) print "use Rattle·answers.specs.declared." answer_type(list[i]) ".the-variants as " camel(list[i]) > to
+    for (i = 1; i <= n; i++) print "use Rattle.answers.specs.declared." answer_type(list[i]) ".TheVariants as " list[i] > to
 }
 
 function ask_law(    i, k) {
-    out("crates/ask/proofs/Asked.antt")
+    folder("crates/ask/proofs/Asked.antt"); out("crates/ask/proofs/Asked.antt")
     print "-- Every query says 7, or its values where the state is one that a run leaves. Assumes nothing. Written by tools/calls" > to
     print "-- from calls.txt." > to
-    print "use mathlib.Core.Path.{_≡_, refl}" > to
-    print "use Rattle·console.specs.declared.Cgb.{Cgb}" > to
-    uses("saying stateRefusal " answers_of("Says") " " definitions_of())
+    print "use mathlib.Core.Path.{◌≡◌, refl}" > to
+    print "use Rattle.console.specs.declared.Cgb.{Cgb}" > to
+    uses("saying state_refusal " answers_of("_says") " " definitions_of())
     refused_uses()
-    print "use Rattle·told.proofs.Says.{says-number, says-own}" > to
-    print "use Rattle·call.specs.declared.query.Query.{Query}" > to
-    print "use Rattle·call.specs.declared.query.Query.the-variants as query" > to
-    print "use Rattle·ask·specs.specs.Ask.{askedOf}" > to
+    print "use Rattle.told.proofs.Says.{says_number, says_own}" > to
+    print "use Rattle.call.specs.declared.query.Query.{Query}" > to
+    print "use Rattle.call.specs.declared.query.Query.TheVariants as query" > to
+    print "use Rattle.ask.specs.Ask.{asked_of}" > to
     print "" > to
     print "module _ (s : Cgb) where" > to
-    print "  pub asked-said : (q : Query) → askedOf s q ≡ saying (stateRefusal s) (askedOf s q .values)" > to
-    print "  unfolding askedOf " definitions_of() > to
+    print "  pub asked_said : (q : Query) → asked_of s q ≡ saying (state_refusal s) (asked_of s q).values" > to
+    print "  unfolding asked_of " definitions_of() > to
     for (i = 1; i <= queries; i++) {
         k = query[i]
-        print "  asked-said query." variant[k] " = says-own _ _ _ (" said_by(k) ")" > to
+        print "  asked_said query." variant[k] " = says_own _ _ _ (" said_by(k) ")" > to
     }
     close(to)
     out("crates/ask/proofs/Lib.antt")
@@ -187,24 +154,28 @@ function ask_law(    i, k) {
 function kind_code(    i, k) {
     folder("crates/record/src/kind.rt"); out("crates/record/src/kind.rt")
     print "// The kinds of the calls that are lent no memory. Written by tools/calls from calls.txt." > to
-    print "ghost use mathlib.Core.Path.{_≡_};" > to
-    print "ghost use Rattle·record·specs.specs.Kind.{plainOf, queryOf, queryKind};" > to
+    print "ghost use Rattle.std.specs.Prelude.{◌≡◌};" > to
+    print "ghost use Rattle.record.specs.Kind.{plain_of, query_of, query_kind};" > to
+    print "" > to
     print "use crate::input;" > to
     print "use call::PlainCall;" > to
     print "use call::query::Query;" > to
     print "" > to
+    print "#[derive(Clone, Copy)]" > to
     print "pub enum CodedPlain {" > to
     print "    Plain(PlainCall)," > to
     print "    Unknown," > to
     print "}" > to
     print "" > to
+    print "#[derive(Clone, Copy)]" > to
     print "pub enum CodedQuery {" > to
     print "    Query(Query)," > to
     print "    Unknown," > to
     print "}" > to
     print "" > to
+    print "#[tactic(auto, unfolding(crate::specs::Kind::query_kind))]" > to
     print "fn query(kind: u8) -> CodedQuery" > to
-    print "    ensures { λ r. ⌜ r ≡ queryKind kind ⌝ }" > to
+    print "    ensures { result ≡ query_kind kind }" > to
     print "{" > to
     print "    match kind {" > to
     for (i = 1; i <= queries; i++) print "        " kind[query[i]] " => CodedQuery::Query(Query::" variant[query[i]] ")," > to
@@ -213,7 +184,7 @@ function kind_code(    i, k) {
     print "}" > to
     print "" > to
     print "fn asked(kind: u8) -> CodedPlain" > to
-    print "    ensures { λ r. ⌜ r ≡ queryOf (queryKind kind) ⌝ }" > to
+    print "    ensures { result ≡ query_of (query_kind kind) }" > to
     print "{" > to
     print "    let coded = query(kind);" > to
     print "    let CodedQuery::Query(q) = coded else {" > to
@@ -222,8 +193,9 @@ function kind_code(    i, k) {
     print "    CodedPlain::Plain(PlainCall::Query(q))" > to
     print "}" > to
     print "" > to
+    print "#[tactic(auto, unfolding(crate::specs::Kind::plain_of))]" > to
     print "pub fn plain(bytes: [u8; 16]) -> CodedPlain" > to
-    print "    ensures { λ r. ⌜ r ≡ plainOf bytes ⌝ }" > to
+    print "    ensures { result ≡ plain_of bytes }" > to
     print "{" > to
     print "    let kind = bytes[0];" > to
     print "    match kind {" > to
@@ -248,105 +220,45 @@ function plain(k) { return !asks[k] && !slices[k] }
 function kind_spec(    i, k, last, names, seen) {
     folder("crates/record/specs/Kind.antt"); out("crates/record/specs/Kind.antt")
     print "-- The kinds of the calls that are lent no memory: byte 0 of a record. Written by tools/calls from calls.txt." > to
-    print "use Prim.Native.Nat.{ℕ}" > to
-    print "use mathlib.Core.List.{List, [], _∷_}" > to
-    print "use Rattle·arithmetic.specs.Number.{byteAt}" > to
-    print "use Rattle·table.specs.Table.{Entry, _⟼_, look}" > to
-    print "use Rattle·call.specs.declared.PlainCall.the-variants as plain" > to
-    print "use Rattle·call.specs.declared.query.Query.the-variants as query" > to
-    for (k = 1; k <= calls; k++) if (plain(k) && reader[k] != "" && !(reader[k] in seen)) { seen[reader[k]]; names = names ", " camel(reader[k]) "Of" }
-    print "use Rattle·record·specs.specs.Input.{" substr(names, 3) "}" > to
-    print "use Rattle·record·specs.specs.declared.kind.CodedPlain.{CodedPlain}" > to
-    print "use Rattle·record·specs.specs.declared.kind.CodedPlain.the-variants.{Plain, Unknown}" > to
-    print "use Rattle·record·specs.specs.declared.kind.CodedQuery.{CodedQuery}" > to
-    print "use Rattle·record·specs.specs.declared.kind.CodedQuery.the-variants as coded" > to
+    print "use Rattle.std.specs.Prelude.{ℕ, List, [], ◌∷◌}" > to
+    print "use Rattle.arithmetic.specs.Number.{byte_at}" > to
+    print "use Rattle.table.specs.Table.{Entry, ◌⟼◌, look}" > to
+    print "use Rattle.call.specs.declared.PlainCall.TheVariants as plain" > to
+    print "use Rattle.call.specs.declared.query.Query.TheVariants as query" > to
+    for (k = 1; k <= calls; k++) if (plain(k) && reader[k] != "" && !(reader[k] in seen)) { seen[reader[k]]; names = names ", " reader[k] "_of" }
+    print "use Rattle.record.specs.Input.{" substr(names, 3) "}" > to
+    print "use Rattle.record.specs.declared.kind.CodedPlain.{CodedPlain}" > to
+    print "use Rattle.record.specs.declared.kind.CodedPlain.TheVariants.{Plain, Unknown}" > to
+    print "use Rattle.record.specs.declared.kind.CodedQuery.{CodedQuery}" > to
+    print "use Rattle.record.specs.declared.kind.CodedQuery.TheVariants as coded" > to
     print "" > to
-    print "abbrev pub queryKinds : List (Entry CodedQuery)" > to
-    print "queryKinds =" > to
+    print "abbrev pub query_kinds : List (Entry CodedQuery)" > to
+    print "query_kinds =" > to
     for (i = 1; i <= queries; i++) print "    (" kind[query[i]] " ⟼ coded.Query query." variant[query[i]] ")" (i < queries ? " ∷" : " ∷ []") > to
     print "" > to
-    print "unfoldable pub queryKind : ℕ → CodedQuery" > to
-    print "queryKind kind = look queryKinds coded.Unknown kind" > to
+    print "unfoldable pub query_kind : ℕ → CodedQuery" > to
+    print "query_kind kind = look query_kinds coded.Unknown kind" > to
     print "" > to
-    print "abbrev pub queryOf : CodedQuery → CodedPlain" > to
-    print "queryOf (coded.Query q) = Plain (plain.Query q)" > to
-    print "queryOf coded.Unknown = Unknown" > to
+    print "abbrev pub query_of : CodedQuery → CodedPlain" > to
+    print "query_of (coded.Query q) = Plain (plain.Query q)" > to
+    print "query_of coded.Unknown = Unknown" > to
     print "" > to
-    print "abbrev pub plainKinds : List ℕ → List (Entry CodedPlain)" > to
-    print "plainKinds bytes =" > to
+    print "abbrev pub plain_kinds : List ℕ → List (Entry CodedPlain)" > to
+    print "plain_kinds bytes =" > to
     for (k = 1; k <= calls; k++) if (plain(k)) last = k
     for (k = 1; k <= calls; k++) if (plain(k)) {
-        print "    (" kind[k] " ⟼ Plain " (reader[k] == "" ? "plain." variant[k] : "(plain." variant[k] " (" camel(reader[k]) "Of bytes))") ")" (k < last ? " ∷" : " ∷ []") > to
+        print "    (" kind[k] " ⟼ Plain " (reader[k] == "" ? "plain." variant[k] : "(plain." variant[k] " (" reader[k] "_of bytes))") ")" (k < last ? " ∷" : " ∷ []") > to
     }
     print "" > to
-    print "unfoldable pub plainOf : List ℕ → CodedPlain" > to
-    print "plainOf bytes = look (plainKinds bytes) (queryOf (queryKind (byteAt bytes 0))) (byteAt bytes 0)" > to
-    close(to)
-}
-
-function kind_proofs(    i, k, n, j) {
-    folder("crates/record/proofs/kind/query/Proof.antt"); out("crates/record/proofs/kind/query/Proof.antt")
-    print "-- `query` meets its contract. Assumes nothing. Written by tools/calls from calls.txt." > to
-    print "use mathlib.Core.Path.{sym}" > to
-    print "use Rattle·table.proofs.Table.{miss}" > to
-    print "use Rattle·record·specs.specs.Kind.{queryKinds, queryKind}" > to
-    print "use Rattle·record·proofs.proofs.kind.query.Statement.{statement}" > to
-    print "use Rattle·record·proofs.proofs.kind.query.Tie as tie" > to
-    for (i = 1; i <= queries; i++) {
-        print "" > to
-        print "returns" numbered(i) " : tie.Need-returns" numbered(i) > to
-        print "unfolding queryKind" > to
-        print "returns" numbered(i) " c = simp (c .match .keys" i ")" > to
-    }
-    i = queries + 1
-    print "" > to
-    print "returns" numbered(i) " : tie.Need-returns" numbered(i) > to
-    print "unfolding queryKind" > to
-    print "returns" numbered(i) " c = sym (miss _ _ queryKinds (c .match .rest))" > to
-    print "" > to
-    print "pub query-spec : {M : Type 1} → statement M" > to
-    print "query-spec =" > to
-    print "    tie.close" > to
-    print "    (tie.spec" > to
-    for (i = 1; i <= queries + 1; i++) print "    returns" numbered(i) (i == queries + 1 ? ")" : "") > to
-    close(to)
-
-    folder("crates/record/proofs/kind/plain/Proof.antt"); out("crates/record/proofs/kind/plain/Proof.antt")
-    print "-- `plain` meets its contract. Assumes nothing. Written by tools/calls from calls.txt." > to
-    print "use mathlib.Core.Path.{sym, _∙_}" > to
-    print "use Rattle·table.proofs.Table.{miss}" > to
-    print "use borrow.Author.Needs.{needs}" > to
-    print "use Rattle·record·specs.specs.Kind.{plainKinds, plainOf}" > to
-    print "use Rattle·record·proofs.proofs.kind.plain.Statement.{statement}" > to
-    print "use Rattle·record·proofs.proofs.kind.plain.Tie as tie" > to
-    for (k = 1; k <= calls; k++) if (plain(k)) {
-        j++
-        print "" > to
-        print "returns" numbered(j) " : tie.Need-returns" numbered(j) > to
-        print "unfolding plainOf" > to
-        if (reader[k] == "") print "returns" numbered(j) " c = simp (c .match .keys" j ")" > to
-        else { n++; print "returns" numbered(j) " c = simp (c ." hyphens(reader[k]) " .ensures, c .before .match .keys" j ")" > to }
-    }
-    j++
-    print "" > to
-    print "returns" numbered(j) " : tie.Need-returns" numbered(j) > to
-    print "unfolding plainOf" > to
-    print "returns" numbered(j) " c = c .asked .ensures ∙ sym (miss _ _ (plainKinds _) (c .before .match .rest))" > to
-    print "" > to
-    print "pub plain-spec : {M : Type 1} → statement M" > to
-    print "plain-spec =" > to
-    print "    tie.close" > to
-    print "    (tie.spec" > to
-    print "    (λ c. search needs)" > to
-    for (i = 1; i <= n + 1; i++) print "    (λ _ _. tt)" > to
-    for (i = 1; i <= j; i++) print "    returns" numbered(i) (i == j ? ")" : "") > to
+    print "unfoldable pub plain_of : List ℕ → CodedPlain" > to
+    print "plain_of bytes = look (plain_kinds bytes) (query_of (query_kind (byte_at bytes 0))) (byte_at bytes 0)" > to
     close(to)
 }
 
 # the module of a public function's contract
 function contract(k,    path, n, parts, i) {
     n = split(at[k], parts, "::")
-    path = "Rattle·" parts[1] ".proofs"
+    path = "Rattle." parts[1] ".proofs"
     for (i = 2; i <= n; i++) path = path "." parts[i]
     return path
 }
@@ -354,21 +266,21 @@ function contract(k,    path, n, parts, i) {
 function functions_spec(    k, f) {
     folder("crates/ledger/specs/Functions.antt"); out("crates/ledger/specs/Functions.antt")
     print "-- Every public function of the library that takes the state, by its own contract. Written by tools/calls from calls.txt." > to
-    print "use Rattle·ledger·specs.specs.Function.{Function}" > to
+    print "use Rattle.ledger.specs.Function.{Function}" > to
     for (k = 1; k <= calls; k++) {
-        print "use " contract(k) ".Kinds as " hyphens(fn[k]) "-kinds" > to
-        print "use " contract(k) ".Reads as " hyphens(fn[k]) "-reads" > to
+        print "use " contract(k) ".Kinds as " fn[k] "_kinds" > to
+        print "use " contract(k) ".Reads as " fn[k] "_reads" > to
     }
     for (k = 1; k <= calls; k++) {
-        f = hyphens(fn[k])
+        f = fn[k]
         print "" > to
         print "abbrev pub " f " : Function" > to
         print f " =" > to
         print "    record {" > to
         print "      lifetimes = " (slices[k] + 0) ";" > to
-        print "      parameters = " f "-kinds.ps;" > to
-        print "      result = " f "-kinds.r;" > to
-        print "      tells = " f "-reads.Learnt;" > to
+        print "      parameters = " f "_kinds.ps;" > to
+        print "      result = " f "_kinds.r;" > to
+        print "      tells = " f "_reads.Learnt;" > to
         print "    }" > to
     }
     close(to)
@@ -377,21 +289,21 @@ function functions_spec(    k, f) {
 function answered_spec(    i, k, n, list, names) {
     out("crates/ledger/specs/Answered.antt")
     print "-- What each query may answer at the state s, by its own contract. Written by tools/calls from calls.txt." > to
-    print "use Rattle·console.specs.declared.Cgb.{Cgb}" > to
-    uses("Said " answers_of("Says"))
+    print "use Rattle.console.specs.declared.Cgb.{Cgb}" > to
+    uses("Said " answers_of("_says"))
     n = split(answers_of(""), list, " ")
-    for (i = 1; i <= n; i++) print "use Rattle·answers.specs.declared." answer_type(list[i]) ".{" answer_type(list[i]) "}" > to
-    print "use Rattle·call.specs.declared.query.Query.{Query}" > to
-    print "use Rattle·call.specs.declared.query.Query.the-variants as query" > to
-    print "use Rattle·ledger·specs.specs.Function.{Gives}" > to
-    for (i = 1; i <= queries; i++) names = names ", " hyphens(fn[query[i]])
-    use_lines("Rattle·ledger·specs.specs.Functions", substr(names, 3))
+    for (i = 1; i <= n; i++) print "use Rattle.answers.specs.declared." answer_type(list[i]) ".{" answer_type(list[i]) "}" > to
+    print "use Rattle.call.specs.declared.query.Query.{Query}" > to
+    print "use Rattle.call.specs.declared.query.Query.TheVariants as query" > to
+    print "use Rattle.ledger.specs.Function.{Gives}" > to
+    for (i = 1; i <= queries; i++) names = names ", " fn[query[i]]
+    use_lines("Rattle.ledger.specs.Functions", substr(names, 3))
     print "" > to
     print "pub data Answered (s : Cgb) : Query → Said → Type 0 where" > to
     for (i = 1; i <= queries; i++) {
         k = query[i]
-        print "  by-" hyphens(fn[k]) " :" > to
-        print "      (r : " answer_type(answer[k]) ") → Gives " hyphens(fn[k]) " tt (s, tt) r → Answered s query." variant[k] " (" camel(answer[k]) "Says r)" > to
+        print "  by_" fn[k] " :" > to
+        print "      (r : " answer_type(answer[k]) ") → Gives " fn[k] " tt (s, tt) r → Answered s query." variant[k] " (" answer[k] "_says r)" > to
     }
     close(to)
 }
@@ -400,29 +312,29 @@ function answered_proof(    i, k, n, list) {
     folder("crates/ledger/proofs/Answered.antt"); out("crates/ledger/proofs/Answered.antt")
     print "-- What a query may answer is what its definition says, and it may answer that. Assumes nothing. Written by tools/calls from" > to
     print "-- calls.txt." > to
-    print "use mathlib.Core.Path.{_≡_, refl, ap}" > to
-    print "use Rattle·console.specs.declared.Cgb.{Cgb}" > to
-    uses("Said stateRefusal querySaid " answers_of("Says") " " definitions_of() values_of())
+    print "use mathlib.Core.Path.{◌≡◌, refl, ap}" > to
+    print "use Rattle.console.specs.declared.Cgb.{Cgb}" > to
+    uses("Said state_refusal query_said " answers_of("_says") " " definitions_of() values_of())
     n = split(answers_of(""), list, " ")
     refused_uses()
-    print "use Rattle·told.proofs.Says.{says-number}" > to
-    print "use Rattle·ask.specs.Ask.{askedOf}" > to
-    print "use Rattle·call.specs.declared.query.Query.{Query}" > to
-    print "use Rattle·call.specs.declared.query.Query.the-variants as query" > to
-    print "use Rattle·ledger·specs.specs.Answered as by" > to
-    print "use Rattle·ledger·specs.specs.Answered.{Answered}" > to
+    print "use Rattle.told.proofs.Says.{says_number}" > to
+    print "use Rattle.ask.specs.Ask.{asked_of}" > to
+    print "use Rattle.call.specs.declared.query.Query.{Query}" > to
+    print "use Rattle.call.specs.declared.query.Query.TheVariants as query" > to
+    print "use Rattle.ledger.specs.Answered as by" > to
+    print "use Rattle.ledger.specs.Answered.{Answered}" > to
     print "" > to
-    print "pub answered-is : {s : Cgb} {q : Query} {said : Said} → Answered s q said → said ≡ askedOf s q" > to
-    print "unfolding askedOf" > to
-    for (i = 1; i <= queries; i++) { k = query[i]; print "answered-is (by.by-" hyphens(fn[k]) " r m) = ap " camel(answer[k]) "Says (m .told .is)" > to }
+    print "pub answered_is : {s : Cgb} {q : Query} {said : Said} → Answered s q said → said ≡ asked_of s q" > to
+    print "unfolding asked_of" > to
+    for (i = 1; i <= queries; i++) { k = query[i]; print "answered_is (by.by_" fn[k] " r m) = ap " answer[k] "_says m.told.is" > to }
     print "" > to
     print "module _ (s : Cgb) where" > to
-    print "  pub some-answer : (q : Query) → Answered s q (askedOf s q)" > to
-    print "  unfolding askedOf querySaid " definitions_of() > to
+    print "  pub some_answer : (q : Query) → Answered s q (asked_of s q)" > to
+    print "  unfolding asked_of query_said " definitions_of() > to
     for (i = 1; i <= queries; i++) {
         k = query[i]
-        print "  some-answer query." variant[k] " =" > to
-        print "      by.by-" hyphens(fn[k]) " (" defined(k) ")" > to
+        print "  some_answer query." variant[k] " =" > to
+        print "      by.by_" fn[k] " (" defined(k) ")" > to
         print "      (record { exit = (s, tt); told = record { is = refl; says = " said_by(k) " } })" > to
     }
     close(to)
@@ -465,7 +377,7 @@ function rust_queries(    i, k) {
             print "    pub fn " fn[k] "(&self) -> Result<" (answer[k] == "flag" ? "bool" : "u8") ", Refusal> {" > to
             print "        self.ask_" answer[k] "(kind::" constant(k) ")" > to
         } else {
-            print "    pub fn " fn[k] "(&self) -> Result<" capital(camel(answer[k])) ", Refusal> {" > to
+            print "    pub fn " fn[k] "(&self) -> Result<" camel(answer[k]) ", Refusal> {" > to
             print "        Ok(self.ask(Record::of(kind::" constant(k) "))?." answer[k] "())" > to
         }
         print "    }" > to
@@ -563,9 +475,7 @@ END {
     answered_proof()
     ask_code()
     ask_spec()
-    ask_proof()
     ask_law()
     kind_code()
     kind_spec()
-    kind_proofs()
 }

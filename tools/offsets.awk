@@ -1,11 +1,11 @@
 # Where each field of the state begins, from the reading functions of crates/codec/specs: a line "OFFSET SIZE NAME" for each. Codec.antt is
 # read first, and then again among all. A part has a file of its own, and its fields have in front the field that holds it: Codec.antt says
-# «object_dma» = objectOf b, so what Object.antt reads is OBJECT_DMA_ and its name. A field that is a record of its own has its name in
+# object_dma = object_of b, so what Object.antt reads is OBJECT_DMA_ and its name. A field that is a record of its own has its name in
 # front of what it holds, but a countdown's ticks, which have no name.
 NR == FNR {
-    gsub(/[{}«»;]/, " ")
+    gsub(/[{};]/, " ")
     n = split($0, word, " ")
-    for (i = 2; i < n; i++) if (word[i] == "=" && sub(/Of$/, "", word[i + 1])) holder[word[i + 1]] = word[i - 1]
+    for (i = 2; i < n; i++) if (word[i] == "=" && sub(/_of$/, "", word[i + 1])) holder[word[i + 1]] = word[i - 1]
     next
 }
 FNR == 1 {
@@ -15,18 +15,18 @@ FNR == 1 {
     part = part in holder ? toupper(holder[part]) "_" : ""
     depth = 0
 }
-!/(byteAt|flagAt|numberAt|bytesAt) b|record \{$|^ *}$/ { next }
+!/(byte_at|flag_at|number_at|bytes_at) b|record \{$|^ *}$/ { next }
 /^use/ { next }
 {
-    gsub(/[()«»;]/, " ")
+    gsub(/[();]/, " ")
     n = split($0, word, " ")
     for (i = 1; i <= n; i++) {
         if (word[i + 1] == "=") field = word[i]
         else if (word[i] == "record") { depth++; within[depth] = field }
         else if (word[i] == "}") { field = within[depth]; depth-- }
-        else if (word[i] == "latencyOf") option = 2
-        else if (word[i] ~ /^(byteAt|flagAt)$/) place(word[i + 2], 1)
-        else if (word[i] ~ /^(numberAt|bytesAt)$/) place(word[i + 2], word[i + 3])
+        else if (word[i] == "latency_of") option = 2
+        else if (word[i] ~ /^(byte_at|flag_at)$/) place(word[i + 2], 1)
+        else if (word[i] ~ /^(number_at|bytes_at)$/) place(word[i + 2], word[i + 3])
     }
 }
 function place(at, size) { if (at ~ /^[0-9]+$/) print at, size, part named() }

@@ -1,5 +1,5 @@
 -- What the number of a call decides: its answer, the state that it leaves, and what it says. Laws for every call, which callers
--- cite in place of `answered`, `kept` and `stateRefusal`. Assumes nothing.
+-- cite in place of `answered`, `kept` and `state_refusal`. Assumes nothing.
 use Prim.Native.Nat.{ℕ}
 use mathlib.Core.Path.{◌≡◌, refl, sym, ap, ◌∙◌}
 use mathlib.Core.Bool.{Bool, true, false, cond}

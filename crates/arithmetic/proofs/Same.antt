@@ -1,6 +1,7 @@
 -- The comparison of two runs of bytes is true exactly where they are equal; and it byte by byte, what a loop has found and what is
 -- left of it. Assumes nothing.
-use Rattle.std.proofs.Common.{◌≡◌, ℕ, ◌+◌, ◌<◌, ◌≤◌, Bool, true, false, ◌&&◌, eqb, List, [], ◌∷◌, length, get_or, sym, refl, ◌∙◌, add-one, drop_of_length-le, drop-cons, eq-eqb, eqb-true}
+use Rattle.std.proofs.Common.{◌≡◌, ℕ, ◌+◌, ◌<◌, ◌≤◌, Bool, true, false, ◌&&◌, eqb, List, [], ◌∷◌, length, get_or, sym, refl, ◌∙◌, add-one}
+use Rattle.std.proofs.Common.{drop_of_length-le, drop-cons, eq-eqb, eqb-true}
 use mathlib.Core.Bool.{false≢true, and_assoc, and-true}
 use Rattle.arithmetic.specs.Number.{same_bytes, same_from}
 

@@ -1,8 +1,9 @@
 -- What each query says, by the definition that its contract cites. Written by tools/calls from calls.txt.
 use Rattle.console.specs.declared.Cgb.{Cgb}
 use Rattle.answers.specs.Answers.{Said, tally_says, status_says, claim_says, flag_says, byte_says, object_dma_says}
-use Rattle.engine.specs.Calls.{tally_call_of, status_call_of, claim_call_of, flag_of, byte_of, object_dma_call_of, park_waits, request_stands, cpu_held}
-use Rattle.engine.specs.Calls.{bus_seized, switch_in_progress, divider_runs, at_double_speed, cpu_steps, bank_selected, svbk_written}
+use Rattle.engine.specs.Calls.{tally_call_of, status_call_of, claim_call_of, flag_of, byte_of, object_dma_call_of, park_waits}
+use Rattle.engine.specs.Calls.{request_stands, cpu_held, bus_seized, switch_in_progress, divider_runs, at_double_speed, cpu_steps}
+use Rattle.engine.specs.Calls.{bank_selected, svbk_written}
 use Rattle.call.specs.declared.query.Query.{Query}
 use Rattle.call.specs.declared.query.Query.TheVariants as query
 

@@ -39,7 +39,8 @@ own_if_true script log k t = same_equal _ _ (sym (compares script log k) ∙ t)
 
 not_if_false : (script log : List ℕ) (k : ℕ) → at_record script log k ≡ false → Own script log k → ⊥
 not_if_false script log k f own =
-    false≢true (sym f ∙ compares script log k ∙ ap (λ (l : List ℕ). same_bytes l (own_record at_power_on script k)) own ∙ same_self (own_record at_power_on script k))
+    let mine = own_record at_power_on script k in
+    false≢true (sym f ∙ compares script log k ∙ ap (λ (l : List ℕ). same_bytes l mine) own ∙ same_self mine)
 
 -- all of the first k records are the engine's
 pub record AllOwn (script log : List ℕ) (k : ℕ) (s : Hearing) : Type 0 where

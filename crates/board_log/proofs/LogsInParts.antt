@@ -11,7 +11,8 @@ use Rattle.console.specs.PowerOn.{power_on_of}
 use Rattle.console.specs.declared.Cgb.{Cgb}
 use Rattle.board_log.specs.LogRecord.{log_record}
 use Rattle.board_log.specs.Records.{nth_record, whole_in_both}
-use Rattle.board_log.specs.OwnLog.{ReplayPoint, point_of, wram_at_start, at_power_on, record_step, point_after, point_at, own_record, own_records, log_of, Logs}
+use Rattle.board_log.specs.OwnLog.{ReplayPoint, point_of, wram_at_start, at_power_on, record_step, point_after, point_at, own_record}
+use Rattle.board_log.specs.OwnLog.{own_records, log_of, Logs}
 use Rattle.board_log.specs.LogsInParts.{Written, none_written, part, LogsInParts}
 use Rattle.board_log.specs.declared.own.Logged.{Logged}
 use Rattle.board_log.proofs.Cut.{shown_record, gone, within, taken_both}
@@ -116,7 +117,8 @@ at_once_lem :
     Written script (point_of r.state wram_after) (take r.taken buffer_after) (drop r.taken script)
 unfolding at_power_on
 at_once_lem script buffer r wram_after buffer_after logs =
-    let shown : Written script at_power_on [] (script ++ []) = subst (λ (l : List ℕ). Written script at_power_on [] l) (sym (append-nil script)) none_written in
+    let shown : Written script at_power_on [] (script ++ []) =
+    subst (λ (l : List ℕ). Written script at_power_on [] l) (sym (append-nil script)) none_written in
     subst (λ (l : List ℕ). Written script (point_of r.state wram_after) (take r.taken buffer_after) (drop r.taken l)) (append-nil script)
     (part (power_on_of false) wram_at_start [] script [] buffer r wram_after buffer_after shown logs)
 

@@ -8,7 +8,8 @@ use Rattle.countdown.specs.declared.Ticked.{Ticked}
 use Rattle.console.specs.declared.vram_dma.VramDma.{VramDma}
 use Rattle.transfer.specs.declared.pair.BytePair.{BytePair}
 use Rattle.bus.specs.Deposit.{phase_of, deposited}
-use Rattle.bus.specs.Commit.{Taken, nothing, pairs_of, holds_bus, bus_taken, bytes_of, vram_after, run_of, oam_after, Ran, loop_of, rest_run, setup_run, Committed}
+use Rattle.bus.specs.Commit.{Taken, nothing, pairs_of, holds_bus, bus_taken, bytes_of, vram_after, run_of, oam_after, Ran, loop_of}
+use Rattle.bus.specs.Commit.{rest_run, setup_run, Committed}
 use Rattle.bus.specs.declared.commit.Banks.{Banks}
 use Rattle.bus.specs.declared.commit.BusInput.{BusInput}
 use Rattle.bus.specs.declared.commit.Run.{Run}

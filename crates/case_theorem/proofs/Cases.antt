@@ -96,7 +96,8 @@ unfolding observed_arb observed_of judged_block ungranted_arb probation_of dropp
 opens_fall_grants = tt
 
 opens_fall_commits : Unit {0}
-unfolding gated_of refilled_of blinds_arb blinds_of commit_block commit_arb commit_of tenure_arb tenure_of pend_arb pend_of readied_block readiness_of seized_block seizure_of
+unfolding gated_of refilled_of blinds_arb blinds_of commit_block commit_arb commit_of tenure_arb tenure_of pend_arb pend_of
+    readied_block readiness_of seized_block seizure_of
 opens_fall_commits = tt
 
 opens_fall : Unit {0}
@@ -108,7 +109,8 @@ unfolding bus_answer bus_refusal wrong_lengths bus_pairs bus_state bus_taken pai
 opens_moves = tt
 
 opens_switches : Unit {0}
-unfolding switch_call_of switch_refusal switched_of defers switch.ready_block outcome_of ungranted cut_of discarded_of graded_of upward_of engine_after blackout_of
+unfolding switch_call_of switch_refusal switched_of defers switch.ready_block outcome_of ungranted cut_of discarded_of graded_of
+    upward_of engine_after blackout_of
 opens_switches = tt
 
 opens_drains_blackout : Unit {0}

@@ -1,4 +1,4 @@
--- A record of the state with one field put anew: `withBlockRemaining 16 b` is the block b with 16 bytes left.
+-- A record of the state with one field put anew: `with_block_remaining 16 b` is the block b with 16 bytes left.
 -- Written by tools/setters from the structs of src/.
 use Rattle.std.specs.Prelude.{ℕ, Bool, List}
 use Rattle.countdown.specs.declared.Countdown.{Countdown}

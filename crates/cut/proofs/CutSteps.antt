@@ -7,7 +7,8 @@ use mathlib.Core.Logic.{◌↔◌}
 use lib.Dec.{ltb}
 use borrow.Author.Tests.{ltb-true, ltb-false, lt-ltb, le-ltb}
 use Rattle.countdown.specs.Countdown.{armed, cleared, active_of}
-use Rattle.console.specs.Set.{with_cursor_mode, with_cursor_escape_byte, with_block_remaining, with_block_ready_in, with_block_setup_cells, with_arb_granted_ahead}
+use Rattle.console.specs.Set.{with_cursor_mode, with_cursor_escape_byte, with_block_remaining, with_block_ready_in, with_block_setup_cells}
+use Rattle.console.specs.Set.{with_arb_granted_ahead}
 use Rattle.console.specs.Set.{with_arb_grant_counted}
 use Rattle.console.specs.declared.vram_dma.TransferMode.TheVariants as mode
 use Rattle.console.specs.declared.vram_dma.VramDma.{VramDma}

@@ -1,5 +1,5 @@
 -- What each call gives and leaves, in the paper's order (document 01): the definitions that the promises of the calls speak of, passed
--- on from the crates that have them. Power-on's is `powerOnOf` of `console`; the answers' values are `Answers` of `answers`.
+-- on from the crates that have them. Power-on's is `power_on_of` of `console`; the answers' values are `Answers` of `answers`.
 
 -- section 1: register and WRAM reads and writes
 pub use Rattle.register_calls.specs.Access.{page_above, read_refusal, write_refusal, AnswersWrite}
@@ -17,7 +17,8 @@ pub use Rattle.bus_calls.specs.Bus.{arbitration_answer_of, arbitrated}
 unfoldable pub use Rattle.bus_calls.specs.Bus.{arbitration_call_of, arbitration_said}
 -- section 4: the switch, the escape drain, LCD off, the write conflict, blackout and wake
 pub use Rattle.speed_calls.specs.Speed.{switch_answer_of}
-unfoldable pub use Rattle.speed_calls.specs.Speed.{defers, switch_refusal, switch_call_of, switch_said, blackout_call_of, blackout_said, wake_call_of, wake_said}
+unfoldable pub use Rattle.speed_calls.specs.Speed.{defers, switch_refusal, switch_call_of, switch_said, blackout_call_of, blackout_said}
+unfoldable pub use Rattle.speed_calls.specs.Speed.{wake_call_of, wake_said}
 unfoldable pub use Rattle.transfer_calls.specs.Pair.{escape_drain_of, escape_drain_said}
 unfoldable pub use Rattle.transfer_calls.specs.Lcd.{done_said, lcd_call_of, retired_call_of}
 pub use Rattle.bus_calls.specs.Bus.{conflict_answer_of}

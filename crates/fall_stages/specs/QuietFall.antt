@@ -1,5 +1,5 @@
 -- A shorter way through a fall, which the code takes and document 01 does not name: where the engine is still, no byte is to
--- move and no block would be asked for, the steps in the paper's order (`fallOf`) come to what step 1 does. The contract of the
+-- move and no block would be asked for, the steps in the paper's order (`fall_of`) come to what step 1 does. The contract of the
 -- fall does not speak of it.
 use Rattle.std.specs.Prelude.{◌≡◌, Bool, true, not, ◌&&◌, ◌||◌, eqb}
 use Rattle.console.specs.Modes.{is_general, is_hblank}

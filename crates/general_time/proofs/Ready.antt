@@ -82,7 +82,8 @@ unfolding write_of access_refusal place_of map_write_of stored_of locks_at
 opens_write = tt
 
 opens_switch : Unit {0}
-unfolding switch_call_of switch_refusal switched_of defers switch.ready_block outcome_of ungranted cut_of discarded_of graded_of upward_of engine_after blackout_of
+unfolding switch_call_of switch_refusal switched_of defers switch.ready_block outcome_of ungranted cut_of discarded_of graded_of
+    upward_of engine_after blackout_of
 opens_switch = tt
 
 pub armed : Cgb

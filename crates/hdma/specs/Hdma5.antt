@@ -1,7 +1,8 @@
 -- FF55 (document 01, section 1), written and read.
 use Rattle.std.specs.Prelude.{ℕ, ◌+◌, ◌-◌, ◌*◌, ◌/◌, ◌%◌, ◌<◌, ◌≡◌, Bool, true, false, cond, ◌&&◌, ltb, leb}
 use Rattle.console.specs.Modes.{is_hblank}
-use Rattle.console.specs.Set.{with_cursor_mode, with_cursor_remaining, with_arb_granted_ahead, with_arb_grant_counted, with_arb_pend_granted, with_arb_armed_this_fall}
+use Rattle.console.specs.Set.{with_cursor_mode, with_cursor_remaining, with_arb_granted_ahead, with_arb_grant_counted}
+use Rattle.console.specs.Set.{with_arb_pend_granted, with_arb_armed_this_fall}
 use Rattle.console.specs.Set.{with_dma_cursor, with_dma_arb}
 use Rattle.console.specs.declared.vram_dma.HaltArbiter.{HaltArbiter}
 use Rattle.console.specs.declared.vram_dma.TransferCursor.{TransferCursor}

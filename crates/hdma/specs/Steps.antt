@@ -2,7 +2,8 @@
 use Rattle.std.specs.Prelude.{ℕ, ◌+◌, ◌*◌, ◌/◌, ◌%◌, ◌<◌, ◌≤◌, ◌≡◌, Bool, true, false}
 use Rattle.countdown.specs.Countdown.{armed, cleared}
 use Rattle.console.specs.Modes.{is_hblank}
-use Rattle.console.specs.Set.{with_cursor_mode, with_cursor_remaining, with_block_remaining, with_block_setup_cells, with_block_ready_in, with_arb_armed_this_fall}
+use Rattle.console.specs.Set.{with_cursor_mode, with_cursor_remaining, with_block_remaining, with_block_setup_cells, with_block_ready_in}
+use Rattle.console.specs.Set.{with_arb_armed_this_fall}
 use Rattle.console.specs.Set.{with_arb_pend_from_arm, with_arb_granted_ahead, with_arb_grant_counted, with_arb_pend_granted}
 use Rattle.console.specs.declared.vram_dma.TransferMode.TheVariants.{Idle, General, HBlank}
 use Rattle.console.specs.declared.vram_dma.VramDma.{VramDma}

@@ -36,7 +36,8 @@ use Rattle.transfer.specs.declared.pair.Cause.{Cause}
 use Rattle.transfer.specs.declared.pair.NextAnswer.{NextAnswer}
 use Rattle.transfer.specs.declared.pair.NextAnswer.TheVariants as next
 use Rattle.transfer.specs.declared.pair.NextByte.{NextByte}
-use Rattle.engine.specs.Calls.{page_above, read_refusal, write_refusal, access_refusal, write_of, fallen, fall_refusal, fallen_state, fall_call_of, pair_answer_of}
+use Rattle.engine.specs.Calls.{page_above, read_refusal, write_refusal, access_refusal, write_of, fallen, fall_refusal, fallen_state}
+use Rattle.engine.specs.Calls.{fall_call_of, pair_answer_of}
 use Rattle.engine.specs.Calls.{Lengths, next_pair_of, taken_in, wrong_lengths, bus_refusal, bus_pairs, bus_causes, bus_state}
 use Rattle.engine.specs.Calls.{arbitration_answer_of, arbitrated, arbitration_call_of}
 use Rattle.engine.specs.Calls.{switch_answer_of, defers, switch_refusal, switch_call_of, blackout_call_of, wake_call_of, escape_drain_of, lcd_call_of}

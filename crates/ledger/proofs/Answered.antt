@@ -4,8 +4,8 @@ use mathlib.Core.Path.{◌≡◌, refl, ap}
 use Rattle.console.specs.declared.Cgb.{Cgb}
 use Rattle.answers.specs.Answers.{Said, state_refusal, tally_says, status_says, claim_says, flag_says, byte_says, object_dma_says}
 use Rattle.engine.specs.Calls.{query_said, tally_call_of, status_call_of, claim_call_of, flag_of, byte_of, object_dma_call_of, park_waits}
-use Rattle.engine.specs.Calls.{request_stands, cpu_held, bus_seized, switch_in_progress, divider_runs, at_double_speed, cpu_steps, bank_selected}
-use Rattle.engine.specs.Calls.{svbk_written}
+use Rattle.engine.specs.Calls.{request_stands, cpu_held, bus_seized, switch_in_progress, divider_runs, at_double_speed, cpu_steps}
+use Rattle.engine.specs.Calls.{bank_selected, svbk_written}
 use Rattle.answers.specs.declared.TallyAnswer.TheVariants as tally
 use Rattle.answers.specs.declared.StatusAnswer.TheVariants as status
 use Rattle.answers.specs.declared.ClaimAnswer.TheVariants as claim

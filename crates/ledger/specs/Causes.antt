@@ -16,7 +16,7 @@ use Rattle.ledger.specs.Demand3.{Event, History, then, RunsTo, running, ledger_o
 abbrev pub cause_in : Ledger → Cause
 cause_in l = cond (eqb l.dest 0xFFFF) Carried (cond (not l.free && eqb l.left 1) CountedOut GoingOn)
 
--- "each pair with its own": each comes while something is left (demand 3), so that `last-pair` below speaks of each of them
+-- "each pair with its own": each comes while something is left (demand 3), so that `last_pair` below speaks of each of them
 pub data CausesFollow : Ledger → List BytePair → List Cause → Type 0 where
   no_cause : {l : Ledger} → CausesFollow l [] []
   one_cause :

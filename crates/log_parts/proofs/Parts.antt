@@ -1,5 +1,7 @@
 -- The records of a file. Assumes nothing.
-use Rattle.std.proofs.Common.{◌≡◌, ℕ, zero, suc, ◌+◌, ◌-◌, ◌*◌, ◌/◌, ◌<◌, ◌≤◌, min, List, [], ◌∷◌, ◌++◌, length, get_or, take, drop, sym, refl, ap, ◌∙◌, add-zero, add-suc, arith, length-drop, length-take-le, take_all, drop-cons, drop-drop, take-add}
+use Rattle.std.proofs.Common.{◌≡◌, ℕ, zero, suc, ◌+◌, ◌-◌, ◌*◌, ◌/◌, ◌<◌, ◌≤◌, min, List, [], ◌∷◌, ◌++◌, length, get_or, take, drop, sym}
+use Rattle.std.proofs.Common.{refl, ap, ◌∙◌, add-zero, add-suc, arith, length-drop, length-take-le, take_all, drop-cons, drop-drop}
+use Rattle.std.proofs.Common.{take-add}
 use lib.Seq.{take-append-le, drop-append-le}
 use Rattle.arithmetic.specs.Number.{bytes_at}
 use Rattle.board_log.specs.Records.{nth_record}

@@ -1,6 +1,7 @@
 -- What is shown of writes by their addresses (document 01, section 1; registers.rs, `map_write_byte`), for every address.
 use Rattle.std.specs.Prelude.{ℕ, ◌+◌, ◌-◌, ◌*◌, ◌/◌, ◌%◌, ◌≤◌, ◌≡◌, true, false, List, set}
-use Rattle.console.specs.Set.{with_dmg_compat, with_vram_dma, with_svbk, with_key1_armed, with_vram, with_vram_selected, with_ff_72, with_ff_73, with_ff_74, with_ff_75}
+use Rattle.console.specs.Set.{with_dmg_compat, with_vram_dma, with_svbk, with_key1_armed, with_vram, with_vram_selected, with_ff_72}
+use Rattle.console.specs.Set.{with_ff_73, with_ff_74, with_ff_75}
 use Rattle.console.specs.Set.{with_extra_oam, with_object_dma}
 use Rattle.console.specs.declared.Cgb.{Cgb}
 use Rattle.hdma.specs.Pointers.{with_high, with_low}

@@ -181,7 +181,8 @@ module _ (s t u : Cgb) (i j k : HoldInput) (n : Lengths) (l : LastByte s n) (bef
 
 -- ---- a fall leaves what arbitration keeps
 fall_oam : (i : FallInput) (double : Bool) (d : VramDma) → (fall_of i double d).dma.oam ≡ d.oam
-unfolding settled_of started_of halt_latch_of probation_of observed_of gated_of refilled_of blinds_of served_of seizure_of readiness_of pend_of tenure_of commit_of
+unfolding settled_of started_of halt_latch_of probation_of observed_of gated_of refilled_of blinds_of served_of seizure_of
+    readiness_of pend_of tenure_of commit_of
 fall_oam i double d = by (course i double d)
   where
     by : Course i double d → (fall_of i double d).dma.oam ≡ d.oam

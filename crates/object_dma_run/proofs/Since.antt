@@ -1,4 +1,4 @@
--- Every call does to object DMA what H tells of it, and nothing else does (specs, `objectAt`). Assumes nothing.
+-- Every call does to object DMA what H tells of it, and nothing else does (specs, `object_at`). Assumes nothing.
 use Prim.Native.Nat.{ℕ, ◌+◌, ◌<◌, ◌≤◌, min}
 use native.Mathlib.Omega.{arith}
 use mathlib.Core.Path.{◌≡◌, refl, sym, ap, subst, ◌∙◌}

@@ -287,7 +287,8 @@ unfolding observed_arb observed_of judged_block ungranted_arb probation_of dropp
 opens_fall_grants = tt
 
 opens_fall_commits : Unit {0}
-unfolding gated_of refilled_of blinds_arb blinds_of commit_block commit_arb commit_of tenure_arb tenure_of pend_arb pend_of readied_block readiness_of seized_block seizure_of
+unfolding gated_of refilled_of blinds_arb blinds_of commit_block commit_arb commit_of tenure_arb tenure_of pend_arb pend_of
+    readied_block readiness_of seized_block seizure_of
 opens_fall_commits = tt
 
 opens_switch : Unit {0}

@@ -83,7 +83,7 @@ pub record Agreement : Type 0 where
   pub general_starts :
       (s : Cgb) (v : ℕ) (lcd : Bool) (edge : ℕ) → CgbMode s → v < 256 → pan.bit_at 7 v ≡ 0 →
       is_hblank s.vram_dma.cursor.mode ≡ false → (state_after_write 0xFF55 v lcd edge s).vram_dma.cursor.mode ≡ mode.General
-  -- bit 7 clear while one runs stops it (what FF55 then reads differs: `cancel-stores`)
+  -- bit 7 clear while one runs stops it (what FF55 then reads differs: `cancel_stores`)
   pub cancel_stops :
       (s : Cgb) (v : ℕ) (lcd : Bool) (edge : ℕ) → CgbMode s → v < 256 → pan.bit_at 7 v ≡ 0 →
       s.vram_dma.cursor.mode ≡ mode.HBlank → (state_after_write 0xFF55 v lcd edge s).vram_dma.cursor.mode ≡ mode.Idle

@@ -8,8 +8,10 @@ use Rattle.bus.specs.Commit.{bytes_of}
 use Rattle.bus.specs.declared.arbitration.Arbitration.{Arbitration}
 use Rattle.bus.specs.declared.commit.BusInput.{BusInput}
 use Rattle.map_write.specs.declared.WriteInput.{WriteInput}
-use Rattle.engine.specs.Calls.{read_refusal, write_refusal, read_said, write_of, write_wram, write_said, lengths_of, bus_refusal, bus_pairs, bus_causes, bus_state}
-use Rattle.engine.specs.Calls.{bus_said, bus_bytes, bus_vram, bus_oam, bus_of, inside_bus, cycle_refusal, cycle_state, cycle_said, cycle_byte, cycle_oam, cycle_of}
+use Rattle.engine.specs.Calls.{read_refusal, write_refusal, read_said, write_of, write_wram, write_said, lengths_of, bus_refusal, bus_pairs}
+use Rattle.engine.specs.Calls.{bus_causes, bus_state}
+use Rattle.engine.specs.Calls.{bus_said, bus_bytes, bus_vram, bus_oam, bus_of, inside_bus, cycle_refusal, cycle_state, cycle_said}
+use Rattle.engine.specs.Calls.{cycle_byte, cycle_oam, cycle_of}
 use Rattle.call.specs.declared.Call.{Call}
 use Rattle.call.specs.declared.Call.TheVariants.{Write, Read, Bus, BusInside, ObjectDmaCycle, Plain}
 use Rattle.plain.proofs.Declined.{plain_declined}

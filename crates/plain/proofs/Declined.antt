@@ -28,7 +28,8 @@ use Rattle.plain.specs.Plain.{plain_performed}
 
 module _ (s : Cgb) (wram vram oam : List ℕ) where
   pub plain_declined : (p : PlainCall) → ((plain_performed s p).told.refusal ≡ 0 → ⊥) → Declined s wram vram oam (plain_performed s p) wram vram oam
-  unfolding plain_performed fall_call_of next_pair_of escape_drain_of switch_call_of lcd_call_of retired_call_of blackout_call_of wake_call_of arbitration_call_of conflict_call_of
+  unfolding plain_performed fall_call_of next_pair_of escape_drain_of switch_call_of lcd_call_of retired_call_of blackout_call_of
+      wake_call_of arbitration_call_of conflict_call_of
   plain_declined (plain.Fall i) = told.changing s wram vram oam claim_says claim.Refused (fall_refusal s i) _ _ _ refl (λ n. refl)
   plain_declined plain.NextPair =
       told.changing s wram vram oam pair_says pair.Refused (state_refusal s) _ _ _ (pair_said (next_byte_of s.vram_dma).answer) (λ n. refl)

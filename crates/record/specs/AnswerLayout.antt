@@ -1,4 +1,4 @@
--- An answer's record read back by its offsets: `answerBytes` is one list, and a list with two places swapped would meet a contract that
+-- An answer's record read back by its offsets: `answer_bytes` is one list, and a list with two places swapped would meet a contract that
 -- cites it.
 use Rattle.std.specs.Prelude.{◌<◌, ◌≡◌, length, get_or}
 use Rattle.arithmetic.specs.Number.{byte_at, number_at}

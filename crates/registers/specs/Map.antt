@@ -6,7 +6,7 @@ use Rattle.table.specs.Table.{Entry, ◌⟼◌, look}
 pub data Register : Type 0 where
   KEY0 KEY1 VBK HDMA1 HDMA2 HDMA3 HDMA4 HDMA5 SVBK FF72 FF73 FF74 FF75 : Register
 
--- a place of the map; memory carries an offset. `dmaStart` is FF46 (DMA), object DMA's start (document 02, A1), which is only written
+-- a place of the map; memory carries an offset. `dma_start` is FF46 (DMA), object DMA's start (document 02, A1), which is only written
 pub data Place : Type 0 where
   work_ram banked_ram extra_oam : ℕ → Place
   register : Register → Place
