@@ -1,6 +1,7 @@
 // Replays records of 16 bytes from standard input, from power-on without compat, and writes a line for each
 // (document 01, section 6): record from 0, refusal or 0, pairs, left, FF55 in two capitals; the pair's cause (document 02, A3). It streams:
-// input and output pass through buffers of fixed size, and each read's lines are written before the next read.
+// input and output pass through buffers of fixed size, and each read's lines are written before the next read. It ends with the input,
+// or where lines cannot be written, as in a pipe whose reader has gone.
 #![tactic(auto)]
 
 ghost use Rattle.std.specs.Prelude.{◌≡◌, ◌-◌, ◌*◌, ◌/◌, ◌<◌, ◌≤◌, length, if◌then◌else◌};
@@ -19,8 +20,15 @@ struct Replay {
     number: u64,
 }
 
+// The replay after a part, and whether its lines were written.
+#[derive(Clone, Copy)]
+struct Fed {
+    replay: Replay,
+    written: bool,
+}
+
 // After a read: the replay; where in the buffer the bytes of an incomplete record wait, from one place up to another; and how many
-// reads may still come, none after the end of the input.
+// reads may still come, none after the end of the input or of what can be written.
 #[derive(Clone, Copy)]
 struct Turned {
     replay: Replay,
@@ -30,12 +38,13 @@ struct Turned {
 }
 
 // The records of one part of the input, with their lines written.
-fn feed<W: Write>(output: &mut W, r: Replay, part: &[u8], out: &mut [u8], wram: &mut [u8]) -> Replay
+fn feed<W: Write>(output: &mut W, r: Replay, part: &[u8], out: &mut [u8], wram: &mut [u8]) -> Fed
     requires { length part.now ≤ 65536 }
 {
     let mut state = r.state;
     let mut number = r.number;
     let mut at: usize = 0;
+    let mut written = true;
     let mut i: usize = 0;
     while i < part.len() {
         let stepped = step::perform(state, wram, read::record_of(&part[i..]));
@@ -43,15 +52,18 @@ fn feed<W: Write>(output: &mut W, r: Replay, part: &[u8], out: &mut [u8], wram: 
         at = line::put_line(out, at, number, stepped.line);
         number = number.wrapping_add(1);
         if at > NEARLY_FULL {
-            stream::flush(output, out, at);
+            written = stream::flush(output, out, at) & written;
             at = 0;
         }
         i += 16;
     }
-    stream::flush(output, out, at);
-    Replay {
-        state: state,
-        number: number,
+    written = stream::flush(output, out, at) & written;
+    Fed {
+        replay: Replay {
+            state: state,
+            number: number,
+        },
+        written: written,
     }
 }
 
@@ -85,10 +97,11 @@ fn turn<R: Read, W: Write>(
     let n = filled.bytes;
     let more = n > waiting;
     let end = due(n, more);
-    let later = stream::fewer(turns, more);
-    let replay = feed(output, r, &buf[0..end], out, wram);
+    let fed = feed(output, r, &buf[0..end], out, wram);
+    let written = fed.written;
+    let later = stream::fewer(turns, more & written);
     Turned {
-        replay: replay,
+        replay: fed.replay,
         from: end,
         stop: n,
         turns: later,
