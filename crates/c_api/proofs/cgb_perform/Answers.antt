@@ -1,8 +1,9 @@
+use Rattle.std.proofs.Common.{rules}
 use Rattle.c_api.proofs.Entries.{entered_unreadable, entered_performed}
 use Rattle.c_api.proofs.cgb_perform.Goals as goal
 
 pub returns-then-unreadable : goal.returns-then-unreadable
-returns-then-unreadable c = entered_unreadable _ _ _ _ _ _ _ c.decode-before.ensures _ c.if-unreadable.true c.refused.ensures
+returns-then-unreadable c = entered_unreadable _ _ _ _ _ _ _ c.decode-before.ensures _ c.if-unreadable.true (search rules)
 
 pub returns : goal.returns
 returns c =
