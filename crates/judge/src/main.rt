@@ -59,13 +59,13 @@ fn turn<R: Read>(
     log: &mut [u8],
     wram: &mut [u8],
 ) -> Turned
-    requires script_waits_bound { (script_waits.from ≤ script_waits.stop) × (script_waits.stop ≤ length script.old) }
-    requires log_waits_bound { (log_waits.from ≤ log_waits.stop) × (log_waits.stop ≤ length log.old) }
-    requires in_bounds { (16 ≤ length script.old) × (16 ≤ length log.old) × (0 < turns) }
-    ensures from_le_stop { (result.script.from ≤ result.script.stop) × (result.script.stop ≤ length script.new) }
-    ensures from_le_stop_2 { (result.log.from ≤ result.log.stop) × (result.log.stop ≤ length log.new) }
-    ensures turns_lt_turns { result.turns < turns }
-    ensures turns { Turns j wram.old (in_buffer script.old script_waits) (in_buffer log.old log_waits) result script.new log.new wram.new }
+    requires script_within { (script_waits.from ≤ script_waits.stop) × (script_waits.stop ≤ length script.old) }
+    requires log_within { (log_waits.from ≤ log_waits.stop) × (log_waits.stop ≤ length log.old) }
+    requires room { (16 ≤ length script.old) × (16 ≤ length log.old) × (0 < turns) }
+    ensures script_rest { (result.script.from ≤ result.script.stop) × (result.script.stop ≤ length script.new) }
+    ensures log_rest { (result.log.from ≤ result.log.stop) × (result.log.stop ≤ length log.new) }
+    ensures fewer_turns { result.turns < turns }
+    ensures judged { Turns j wram.old (in_buffer script.old script_waits) (in_buffer log.old log_waits) result script.new log.new wram.new }
 {
     let s = stream::refill(
         script_file,

@@ -35,8 +35,8 @@ fn turn<R: Read, W: Write>(
     wram: &mut [u8],
 ) -> Turned
     requires { (waiting < 16) × (length buf.old ≡ 65536) × (length out.old ≡ 65536) × (0 < turns) }
-    ensures waiting_bound { (result.waiting < 16) × (result.turns < turns) }
-    ensures log_turns { LogTurns state wram.old (take waiting buf.old) out.old result buf.new wram.new out.new }
+    ensures rest { (result.waiting < 16) × (result.turns < turns) }
+    ensures logged { LogTurns state wram.old (take waiting buf.old) out.old result buf.new wram.new out.new }
 {
     let filled = stream::fill(input, buf, waiting);
     let bytes = filled.bytes;

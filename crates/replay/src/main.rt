@@ -69,8 +69,8 @@ fn feed<W: Write>(output: &mut W, r: Replay, part: &[u8], out: &mut [u8], wram: 
 
 // How many of the n bytes are performed now: the whole records, and at the input's end what is left over as well.
 fn due(n: usize, more: bool) -> usize
-    ensures upper_bound { (result ≤ n) × (n - result < 16) }
-    ensures value { result ≡ (if more then n / 16 * 16 else n) }
+    ensures within { (result ≤ n) × (n - result < 16) }
+    ensures records { result ≡ (if more then n / 16 * 16 else n) }
 {
     if more { n / 16 * 16 } else { n }
 }
@@ -87,10 +87,10 @@ fn turn<R: Read, W: Write>(
     out: &mut [u8],
     wram: &mut [u8],
 ) -> Turned
-    requires buf_len { (length buf.old ≡ 65536) × (0 < turns) }
-    requires from_le_stop { (from ≤ stop) × (stop ≤ length buf.old) × (stop - from < 16) }
-    ensures from_le_stop_2 { (result.from ≤ result.stop) × (result.stop ≤ length buf.new) × (result.stop - result.from < 16) }
-    ensures turns_lt_turns { result.turns < turns }
+    requires room { (length buf.old ≡ 65536) × (0 < turns) }
+    requires waits { (from ≤ stop) × (stop ≤ length buf.old) × (stop - from < 16) }
+    ensures rest { (result.from ≤ result.stop) × (result.stop ≤ length buf.new) × (result.stop - result.from < 16) }
+    ensures fewer_turns { result.turns < turns }
 {
     let waiting = stream::to_front(buf, from, stop);
     let filled = stream::fill(input, buf, waiting);

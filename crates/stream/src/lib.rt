@@ -16,8 +16,8 @@ pub struct Filled {
 
 // One read, behind the bytes that wait at the front; where there is no room, none.
 pub fn fill<R: Read>(input: &mut R, buf: &mut [u8], waiting: usize) -> Filled
-    ensures waiting_le_bytes { (waiting ≤ result.bytes) × (result.bytes ≤ max waiting (length buf.new)) }
-    ensures buf_unchanged { take waiting buf.new ≡ take waiting buf.old }
+    ensures within { (waiting ≤ result.bytes) × (result.bytes ≤ max waiting (length buf.new)) }
+    ensures waiting_kept { take waiting buf.new ≡ take waiting buf.old }
 {
     if waiting >= buf.len() {
         return Filled {
@@ -57,8 +57,8 @@ fn between(from: usize, end: usize, places: usize) -> usize
 
 // The bytes from one place up to another, as far as there are any, moved to the front: how many they are.
 pub fn to_front(buf: &mut [u8], from: usize, end: usize) -> usize
-    ensures value { result ≡ min end (length buf.old) - from }
-    ensures buf_after { take result buf.new ≡ take result (drop from buf.old) }
+    ensures count { result ≡ min end (length buf.old) - from }
+    ensures moved { take result buf.new ≡ take result (drop from buf.old) }
 {
     let n = between(from, end, buf.len());
     let mut i: usize = 0;
@@ -87,9 +87,9 @@ pub fn refill<R: Read>(
     stop: usize,
     enough: usize,
 ) -> Refilled
-    ensures from_le_stop { (result.from ≤ result.stop) × (result.stop ≤ length buf.new) }
-    ensures from_bound { min stop (length buf.old) - from ≤ result.stop - result.from }
-    ensures buf_after { take (min stop (length buf.old) - from) (drop result.from buf.new) ≡ take (min stop (length buf.old) - from) (drop from buf.old) }
+    ensures within { (result.from ≤ result.stop) × (result.stop ≤ length buf.new) }
+    ensures none_lost { min stop (length buf.old) - from ≤ result.stop - result.from }
+    ensures waiting_kept { take (min stop (length buf.old) - from) (drop result.from buf.new) ≡ take (min stop (length buf.old) - from) (drop from buf.old) }
 {
     let waiting = between(from, stop, buf.len());
     if (waiting >= enough) & (from <= buf.len()) {
@@ -115,8 +115,8 @@ pub fn refill<R: Read>(
 // How many reads may still come after this one, none where the last brought nothing. A loop has to end, and nothing says that a file
 // does: so it counts down, from a number that no run uses up.
 pub fn fewer(turns: u64, more: bool) -> u64
-    ensures value { result ≡ cond more (turns - 1) 0 }
-    ensures upper_bound { result ≤ turns - 1 }
+    ensures left { result ≡ cond more (turns - 1) 0 }
+    ensures at_least_one_less { result ≤ turns - 1 }
 {
     if !more {
         return 0;

@@ -7,33 +7,33 @@ pub overflow_add-result : goal.overflow_add-result
 overflow_add-result g c =
     let s = c.refill-s in
     let within = taken_within _ _ _ _ _ _ _ _ c.feed-fed.ensures in
-    omega (arith, within.0, s.ensures.from_le_stop, s.type_inv)
+    omega (arith, within.0, s.ensures.within, s.type_inv)
 
 pub overflow_add-result-2 : goal.overflow_add-result-2
 overflow_add-result-2 g c =
     let l = c.refill-l in
     let within = taken_within _ _ _ _ _ _ _ _ c.feed-fed.ensures in
-    omega (arith, within.1, l.ensures.from_le_stop, l.type_inv)
+    omega (arith, within.1, l.ensures.within, l.type_inv)
 
-pub returns-clause-from_le_stop : goal.returns-clause-from_le_stop
-returns-clause-from_le_stop g c =
+pub returns-clause-script_rest : goal.returns-clause-script_rest
+returns-clause-script_rest g c =
     let s = c.refill-s in
     let within = taken_within _ _ _ _ _ _ _ _ c.feed-fed.ensures in
-    (rest_inside s.result.from s.result.stop _ within.0 s.ensures.from_le_stop.0, s.ensures.from_le_stop.1)
+    (rest_inside s.result.from s.result.stop _ within.0 s.ensures.within.0, s.ensures.within.1)
 
-pub returns-clause-from_le_stop_2 : goal.returns-clause-from_le_stop_2
-returns-clause-from_le_stop_2 g c =
+pub returns-clause-log_rest : goal.returns-clause-log_rest
+returns-clause-log_rest g c =
     let l = c.refill-l in
     let within = taken_within _ _ _ _ _ _ _ _ c.feed-fed.ensures in
-    (rest_inside l.result.from l.result.stop _ within.1 l.ensures.from_le_stop.0, l.ensures.from_le_stop.1)
+    (rest_inside l.result.from l.result.stop _ within.1 l.ensures.within.0, l.ensures.within.1)
 
-pub returns-clause-turns : goal.returns-clause-turns
-returns-clause-turns g c =
+pub returns-clause-judged : goal.returns-clause-judged
+returns-clause-judged g c =
     let a = c.args in
     let s = c.refill-s in
     let l = c.refill-l in
     let script : OneFile a.script.now a.script_waits s.new.buf s.result.from s.result.stop =
-    one_file _ _ _ _ _ c.requires.script_waits_bound.1 s.ensures.from_bound s.ensures.buf_after in
+    one_file _ _ _ _ _ c.requires.script_within.1 s.ensures.none_lost s.ensures.waiting_kept in
     let log : OneFile a.log.now a.log_waits l.new.buf l.result.from l.result.stop =
-    one_file _ _ _ _ _ c.requires.log_waits_bound.1 l.ensures.from_bound l.ensures.buf_after in
+    one_file _ _ _ _ _ c.requires.log_within.1 l.ensures.none_lost l.ensures.waiting_kept in
     turned a.j a.wram.now a.script.now a.log.now a.script_waits a.log_waits _ _ _ _ _ _ _ _ script log c.feed-fed.ensures _ _
