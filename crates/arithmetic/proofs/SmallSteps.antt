@@ -2,7 +2,7 @@
 use Rattle.std.proofs.Common.{◌≡◌, ℕ, ◌+◌, ◌%◌, ◌^◌, ◌<◌, ◌≤◌, Bool, true, false, cond, eqb, ltb, refl, arith, ltb-false, ltb-true, le-ltb, lt-ltb, eqb-true}
 use borrow.Author.Tests.{eqb-false}
 use Rattle.arithmetic.proofs.Tests.{ltb_same}
-use Rattle.arithmetic.specs.SmallSteps.{carried_of, Carries, Saturates}
+use Rattle.arithmetic.specs.SmallSteps.{Carries, Saturates}
 
 module _ (a b : ℕ) (p : a < 0x10000) (q : b < 0x10000) where
   -- a sum that wrapped is below each of its parts, and another is not

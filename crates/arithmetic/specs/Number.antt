@@ -1,30 +1,10 @@
 -- Numbers of several bytes, the lowest first; what stands at an offset; whether two runs of bytes are the same.
 use Rattle.std.specs.Prelude.{ℕ, zero, suc, ◌+◌, ◌*◌, ◌/◌, ◌%◌, Bool, true, false, ◌&&◌, List, [], ◌∷◌, drop, ◌==◌, slice_index}
-use Rattle.arithmetic.specs.declared.number.Eight.{Eight}
 
 -- a number's n lowest digits of base 256
 abbrev pub digits : ℕ → ℕ → List ℕ
 digits zero x = []
 digits (suc n) x = x % 256 ∷ digits n (x / 256)
-
--- the kth of a number's `digits`
-abbrev pub nth_digit : ℕ → ℕ → ℕ
-nth_digit zero x = x % 256
-nth_digit (suc k) x = nth_digit k (x / 256)
-
--- the lowest eight of them, as a struct
-abbrev pub eight_of : ℕ → Eight
-eight_of x =
-    record {
-      b0 = nth_digit 0 x;
-      b1 = nth_digit 1 x;
-      b2 = nth_digit 2 x;
-      b3 = nth_digit 3 x;
-      b4 = nth_digit 4 x;
-      b5 = nth_digit 5 x;
-      b6 = nth_digit 6 x;
-      b7 = nth_digit 7 x;
-    }
 
 -- the number that digits say
 abbrev pub number : List ℕ → ℕ

@@ -1,17 +1,15 @@
 -- Small steps of arithmetic that several crates share (document 01, "Saturating steps and `overflowing_add` are small helpers").
-use Rattle.std.specs.Prelude.{◌≡◌, ℕ, ◌+◌, ◌-◌, ◌%◌, ◌^◌, ◌<◌, ◌≤◌, cond, ◌==◌, nat_lt}
-use Rattle.arithmetic.specs.declared.step.Carried.{Carried}
+use Rattle.std.specs.Prelude.{◌≡◌, ℕ, ◌+◌, ◌-◌, ◌%◌, ◌^◌, ◌<◌, ◌≤◌, Bool, cond, ◌==◌, nat_lt}
 
 -- one more, stopping at 255
 abbrev pub saturating_inc : ℕ → ℕ
 saturating_inc n = cond (nat_lt n 255) (n + 1) 255
 
--- a byte as a wider number is the same number
-pub record Widened (x r : ℕ) : Type 0 where
-  pub same : r ≡ x
-  pub small : r < 256
-
 -- a sum within 16 bits, and whether it left them: the Rust's `overflowing_add`
+pub record Carried : Type 0 where
+  pub sum : ℕ
+  pub carry : Bool
+
 abbrev pub carried_of : ℕ → ℕ → Carried
 carried_of a b = record { sum = (a + b) % 2 ^ 16; carry = nat_lt 0xFFFF (a + b) }
 

@@ -1,7 +1,6 @@
-// Arithmetic that every other crate shares: choices between two values (`pick`), saturating steps and a sum with its carry
-// (`step`), numbers of several bytes (`number`).
+// Arithmetic that every other crate shares: a choice between two values (`pick`), a sum with its carry (`step`). Numbers of several
+// bytes and the saturating steps are std's; specs/ has what the paper says of them.
 #![tactic(auto)]
 
-pub mod number;
 pub mod pick;
 pub mod step;

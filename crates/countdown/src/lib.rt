@@ -4,13 +4,11 @@
 ghost use Rattle.std.specs.Prelude.{◌≡◌};
 ghost use Rattle.countdown.specs.Countdown.{armed, cleared, active_of, remaining_of, ticked, expired_of};
 
-use arithmetic::step::less_one;
-
 // Armed to a tick count, stepped toward zero, then inert.
-#[derive(Clone, Copy)]
+#[derive(Clone, Copy, Default)]
 pub struct Countdown(pub u8);
 
-// The countdown after a step, with the flag of the step.
+// The countdown after a step, with the flag of the step: both always stand, so no Option, and the names say more than a pair's places.
 #[derive(Clone, Copy)]
 pub struct Ticked {
     pub next: Countdown,
@@ -49,8 +47,7 @@ impl Countdown {
         ensures { result ≡ ticked self }
     {
         let active = self.0 > 0;
-        let n = less_one(self.0);
-        self.0 = n;
+        self.0 = self.0.saturating_sub(1);
         Ticked {
             next: self,
             flag: active,
@@ -62,8 +59,7 @@ impl Countdown {
         ensures { result ≡ expired_of self }
     {
         let last = self.0 == 1;
-        let n = less_one(self.0);
-        self.0 = n;
+        self.0 = self.0.saturating_sub(1);
         Ticked {
             next: self,
             flag: last,

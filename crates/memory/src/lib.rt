@@ -27,14 +27,14 @@ pub fn wrong_lengths(cartridge: usize, wram: usize, vram: usize, oam: usize) -> 
 pub fn byte_at(bytes: &[u8], at: usize) -> u8
     ensures { result ≡ get_or bytes.now at 0 }
 {
-    if at < bytes.len() { bytes[at] } else { 0 }
+    bytes.get(at).copied().unwrap_or(0)
 }
 
-// A byte stored at an index; nothing past the end.
-pub fn put_at(bytes: &mut [u8], at: usize, value: u8)
-    ensures { bytes.new ≡ set bytes.old at value }
+// A value stored at an index; nothing past the end. Through `get_mut` it is no shorter, and its proof would need a file.
+pub fn put_at<T: Copy>(places: &mut [T], at: usize, value: T)
+    ensures { places.new ≡ set places.old at value }
 {
-    if at < bytes.len() {
-        bytes[at] = value;
+    if at < places.len() {
+        places[at] = value;
     }
 }

@@ -1,19 +1,17 @@
 -- The map is at each address what document 01 says of it (specs, `MapSteps`, `RamSteps`). Assumes nothing.
-use Prim.Native.Nat.{ℕ, zero, suc, ◌+◌, ◌-◌, ◌*◌, ◌/◌, ◌%◌, ◌<◌, ◌≤◌}
+use Prim.Native.Nat.{ℕ, zero, suc, ◌+◌, ◌-◌, ◌<◌, ◌≤◌}
 use native.Mathlib.Omega.{arith}
 use mathlib.Core.Path.{◌≡◌, refl, sym, ap, subst, ◌∙◌}
 use mathlib.Core.Bool.{Bool, true, false, false≢true}
-use mathlib.Core.Logic.{◌↔◌, ◌⊎◌, inl, inr, ⊎_elim}
+use mathlib.Core.Logic.{◌↔◌, inl, inr, ⊎_elim}
 use lib.Dec.{eqb}
 use borrow.Author.Tests.{eq-eqb, ne_eqb, eqb-true}
-use Rattle.memory.specs.Wram.{banked_index}
 use Rattle.table.specs.Table.{◌▸◌}
 use Rattle.table.proofs.Table.{each}
 use Rattle.registers.specs.Map.{Place, work_ram, banked_ram, extra_oam, register, dma_start, unmapped, registers, register_of, place_of, readable, writable}
 use Rattle.registers.specs.Map.{locks, locks_at}
 use Rattle.registers.specs.Ram.{wram_index_of}
 use Rattle.registers.specs.MapSteps.{Mapped, MappedWrite, LocksWrite, MapSteps, RamSteps}
-use Rattle.registers.specs.declared.WramIndex.TheVariants.{At, Elsewhere}
 use Rattle.registers.proofs.Places.{at_place, at_c, at_d, at_e, at_f, at_oam}
 use Rattle.registers.proofs.Ram as ram
 use Rattle.registers.proofs.Ranges.{side, range}

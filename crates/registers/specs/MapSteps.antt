@@ -1,10 +1,9 @@
 -- What is shown of the map by its addresses (document 01, section 1; registers.rs, `wram_index`, `extra_oam_index`): which
 -- addresses a read and a write have in their map, which compat locks, and where each lies in memory, for every address.
 -- `⊎` is "or".
-use Rattle.std.specs.Prelude.{ℕ, ◌+◌, ◌-◌, ◌*◌, ◌/◌, ◌%◌, ◌<◌, ◌≤◌, ◌≡◌, true, ◌↔◌, ◌⊎◌}
+use Rattle.std.specs.Prelude.{Some, None, ℕ, ◌+◌, ◌-◌, ◌*◌, ◌/◌, ◌%◌, ◌<◌, ◌≤◌, ◌≡◌, true, ◌↔◌, ◌⊎◌}
 use Rattle.registers.specs.Map.{place_of, readable, writable, locks_at}
 use Rattle.registers.specs.Ram.{wram_index_of}
-use Rattle.registers.specs.declared.WramIndex.TheVariants.{At, Elsewhere}
 
 -- the read's map: "WRAM reads and writes, and registers FEA0–FEFF, FF4C, FF4D, FF4F, FF51–FF55, FF70, FF72–FF75"; "WRAM answers at C000h–FDFFh"
 abbrev pub Mapped : ℕ → Type 0
@@ -34,10 +33,10 @@ pub record MapSteps (a : ℕ) : Type 0 where
 -- where an address lies in work RAM
 pub record RamSteps (svbk a : ℕ) : Type 0 where
   -- C000h up, and "D000h up in bank FF70 (0 means 1)" (section 3)
-  pub fixed : 0xC000 ≤ a → a ≤ 0xCFFF → wram_index_of svbk a ≡ At (a - 0xC000)
-  pub banked : 0xD000 ≤ a → a ≤ 0xDFFF → (svbk ≡ 0 → ⊥) → wram_index_of svbk a ≡ At (svbk * 4096 + (a - 0xD000))
-  pub bank_one : 0xD000 ≤ a → a ≤ 0xDFFF → svbk ≡ 0 → wram_index_of svbk a ≡ At (4096 + (a - 0xD000))
+  pub fixed : 0xC000 ≤ a → a ≤ 0xCFFF → wram_index_of svbk a ≡ Some (a - 0xC000)
+  pub banked : 0xD000 ≤ a → a ≤ 0xDFFF → (svbk ≡ 0 → ⊥) → wram_index_of svbk a ≡ Some (svbk * 4096 + (a - 0xD000))
+  pub bank_one : 0xD000 ≤ a → a ≤ 0xDFFF → svbk ≡ 0 → wram_index_of svbk a ≡ Some (4096 + (a - 0xD000))
   pub bank_inside : 0xD000 ≤ a → a ≤ 0xDFFF → svbk ≤ 7 → svbk * 4096 + (a - 0xD000) < 32768
   -- "E000h up repeating C000h up", to FDFFh
   pub echo : 0xE000 ≤ a → a ≤ 0xFDFF → wram_index_of svbk a ≡ wram_index_of svbk (a - 0x2000)
-  pub elsewhere : (a < 0xC000) ⊎ (0xFDFF < a) → wram_index_of svbk a ≡ Elsewhere
+  pub elsewhere : (a < 0xC000) ⊎ (0xFDFF < a) → wram_index_of svbk a ≡ None

@@ -10,23 +10,17 @@ ghost use Rattle.registers.specs.Ram.{wram_index_of};
 
 use memory::wram::banked;
 
-// Where an address lies in work RAM: `Option<usize>` in the Rust.
-#[derive(Clone, Copy)]
-pub enum WramIndex {
-    At(usize),
-    Elsewhere,
-}
-
-#[tactic(auto, unfolding(crate::specs::Ram::wram_index_of))]
-pub fn wram_index(svbk: u8, address: u16) -> WramIndex
+// Where an address lies in work RAM.
+#[tactic(auto, unfolding(crate::specs::Ram::wram_index_of, crate::specs::Map::place_of))]
+pub fn wram_index(svbk: u8, address: u16) -> Option<usize>
     ensures { result ≡ wram_index_of svbk address }
 {
     match address {
-        0xC000..=0xCFFF => WramIndex::At((address - 0xC000) as usize),
-        0xD000..=0xDFFF => WramIndex::At(banked(svbk, address - 0xD000)),
-        0xE000..=0xEFFF => WramIndex::At((address - 0xE000) as usize),
-        0xF000..=0xFDFF => WramIndex::At(banked(svbk, address - 0xF000)),
-        _ => WramIndex::Elsewhere,
+        0xC000..=0xCFFF => Some((address - 0xC000) as usize),
+        0xD000..=0xDFFF => Some(banked(svbk, address - 0xD000)),
+        0xE000..=0xEFFF => Some((address - 0xE000) as usize),
+        0xF000..=0xFDFF => Some(banked(svbk, address - 0xF000)),
+        _ => None,
     }
 }
 
@@ -35,15 +29,5 @@ pub fn wram_index(svbk: u8, address: u16) -> WramIndex
 pub fn compat_locks(address: u16) -> bool
     ensures { result ≡ locks_at address }
 {
-    match address {
-        0xFF4D => true,
-        0xFF51 => true,
-        0xFF52 => true,
-        0xFF53 => true,
-        0xFF54 => true,
-        0xFF55 => true,
-        0xFF70 => true,
-        0xFF74 => true,
-        _ => false,
-    }
+    matches!(address, 0xFF4D | 0xFF51..=0xFF55 | 0xFF70 | 0xFF74)
 }
