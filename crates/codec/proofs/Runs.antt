@@ -1,27 +1,25 @@
--- Runs of bytes, stored one by one: what a loop has done and what is left of it. Assumes nothing.
-use Prim.Native.Nat.{ℕ, zero, suc, ◌+◌, ◌<◌, ◌≤◌}
+-- Runs of bytes: what is copied into one and out of one, and what stands in it. Assumes nothing.
+use Rattle.std.proofs.Common.{◌≡◌, ℕ, zero, suc, ◌+◌, ◌-◌, ◌<◌, ◌≤◌, List, ◌∷◌, length, get_or, take, drop, drop-cons, slice_range, refl, sym, ap, ◌∙◌, arith}
+use Rattle.std.proofs.lemmas.List.Edits.{sets, sets-eq}
+use Rattle.std.proofs.lemmas.Slice.{put_mid-paste}
+use Rattle.std.proofs.Math.Seq.{take-length}
+use borrow.Rule.Slice.PartMut.{put_mid}
 use native.Mathlib.Nat.{add-zero, add-suc, suc-add, le_of_suc-le-suc, not-suc-le-zero}
-use native.Mathlib.Numerals.{add-one}
-use native.Mathlib.Omega.{arith}
-use mathlib.Core.Path.{◌≡◌, refl, sym, ap, ◌∙◌}
-use mathlib.Core.List.{List, ◌++◌, append-nil}
-use lib.ListN.{length, get_or, set, drop, drop_of_length-le}
-use lib.Seq.{sets, sets-eq, drop-cons, drop-length}
 use Rattle.arithmetic.specs.Number.{bytes_at}
 
--- the bytes p stored from offset at on into l₀; l is l₀ with the first i stored, and the next goes to offset k
-module _ (l₀ l p : List ℕ) (at k i : ℕ) (left : sets l₀ at p ≡ sets l k (drop i p)) where
-  pub stored_more : (next : ℕ) → next ≡ suc k → i < length p → sets l₀ at p ≡ sets (set l k (get_or p i 0)) next (drop (i + 1) p)
-  stored_more next e h = left ∙ rw (e, add-one i, drop-cons p i 0 h)
+-- a part copied into a run of bytes is stored there byte by byte
+pub placed :
+    (out part new : List ℕ) (at k : ℕ) → new ≡ part → k ≡ length part → at + length part ≤ length out →
+    put_mid at k out new ≡ sets out at part
+placed out part new at k e n h = put_mid-paste at k out new part (length part) e (sym n) refl ∙ rw take-length (sym (sets-eq part out at h))
 
-  pub stored_all : length p ≤ i → l ≡ sets l₀ at p
-  stored_all h = sym (left ∙ rw (drop_of_length-le p h))
+-- a part copied out of one is the bytes from its offset on
+copied : (b : List ℕ) (k n : ℕ) → k + n ≤ length b → take n (drop k b) ≡ bytes_at b k n
+copied b k zero h = refl
+copied b k (suc n) h = rw (drop-cons b k 0 (omega arith)) (ap (λ l. get_or b k 0 ∷ l) (copied b (suc k) n (omega arith)))
 
--- stored over as many bytes, they are all that is left
-pub stored_over : (l p : List ℕ) → length p ≡ length l → sets l 0 p ≡ p
-stored_over l p e =
-    let h : 0 + length p ≡ length l = omega arith in
-    sets-eq p l 0 (omega arith) ∙ ap (λ (n : ℕ). p ++ drop n l) h ∙ ap (λ (z : List ℕ). p ++ z) (drop-length l) ∙ append-nil p
+pub between_bytes : (b : List ℕ) (k n : ℕ) → k + n ≤ length b → slice_range b k (k + n) ≡ bytes_at b k n
+between_bytes b k n h = let e : k + n - k ≡ n = omega arith in rw e (copied b k n h)
 
 -- the bytes from an offset on, and how many they are
 pub part_byte : (b : List ℕ) (at n i : ℕ) → i < n → get_or (bytes_at b at n) i 0 ≡ get_or b (at + i) 0

@@ -2,10 +2,11 @@
 -- read as a state within its widths. A new part is a line in each. Assumes nothing.
 use Prim.Native.Nat.{ℕ, zero, suc, ◌<◌}
 use mathlib.Core.Bool.{Bool, true, false, cond}
-use mathlib.Core.List.{List, [], ◌∷◌, ◌++◌}
-use mathlib.Core.Path.{◌≡◌, refl, ap, ◌∙◌}
+use mathlib.Core.List.{List, [], ◌∷◌}
+use mathlib.Core.Path.{◌≡◌, refl, ◌∙◌}
 use lib.Dec.{lit<, lit≤, eqb}
 use lib.ListN.{length, replicate}
+use Rattle.std.proofs.Common.{Option, Some, None}
 use Rattle.arithmetic.proofs.Digits.{number_fits}
 use Rattle.arithmetic.specs.Number.{bytes_at, byte_at}
 use Rattle.codec.proofs.Parts as parts
@@ -26,8 +27,6 @@ use Rattle.codec.specs.Rest.{register_bytes, bank_bytes, latency_tag, latency_va
 use Rattle.codec.specs.Codec.{encode_of, dma_of, state_of}
 use Rattle.codec.specs.Fits.{Fits, Bytes}
 use Rattle.console.specs.declared.Cgb.{Cgb}
-use Rattle.console.specs.declared.WakeLatency.TheVariants.{None, Some}
-use Rattle.console.specs.declared.WakeLatency.{WakeLatency}
 
 -- ---- laid
 
@@ -70,7 +69,7 @@ module _ (s : Cgb) where
 
 -- ---- read back
 
-latency_back : (l : WakeLatency) → latency_of (latency_tag l) (latency_value l) ≡ l
+latency_back : (l : Option ℕ) → latency_of (latency_tag l) (latency_value l) ≡ l
 latency_back None = refl
 latency_back (Some n) = refl
 

@@ -1,5 +1,5 @@
 -- The state as 248 bytes, and back.
-use Rattle.std.specs.Prelude.{ℕ, List, [], ◌∷◌, ◌++◌, replicate}
+use Rattle.std.specs.Prelude.{ℕ, Option, Some, None, cond, List, [], ◌∷◌, ◌++◌, replicate}
 use Rattle.arithmetic.specs.Number.{byte_at, bytes_at, number_at, flag_at, same_bytes}
 use Rattle.codec.specs.Cursor.{cursor_bytes, cursor_of}
 use Rattle.codec.specs.Block.{block_bytes, block_of}
@@ -7,7 +7,6 @@ use Rattle.codec.specs.Arb.{arb_bytes, arb_of}
 use Rattle.codec.specs.Oam.{oam_bytes, oam_of}
 use Rattle.codec.specs.Object.{object_bytes, object_of}
 use Rattle.codec.specs.Rest.{latency_of, register_bytes, bank_bytes, console_of}
-use Rattle.codec.specs.declared.Decoded.{Decoded}
 use Rattle.console.specs.declared.Cgb.{Cgb}
 use Rattle.console.specs.declared.vram_dma.VramDma.{VramDma}
 
@@ -56,6 +55,6 @@ state_of b =
       object_dma = object_of b;
     }
 
--- valid: the bytes are canonical, exactly what the state that they read as is written as
-unfoldable pub decode_of : List ℕ → Decoded
-decode_of b = record { valid = same_bytes (encode_of (state_of b)) b; state = state_of b }
+-- that state where the bytes are canonical: exactly what it is written as
+unfoldable pub decode_of : List ℕ → Option Cgb
+decode_of b = cond (same_bytes (encode_of (state_of b)) b) (Some (state_of b)) None

@@ -7,4 +7,3 @@ pub mod Rest
 pub mod Codec
 pub mod Fits
 pub mod RoundTrip
-pub mod Inner

@@ -1,21 +1,19 @@
 -- What is left of the console: bytes 41 to 90.
-use Rattle.std.specs.Prelude.{ℕ, cond, List, [], ◌∷◌, ◌++◌, eqb}
+use Rattle.std.specs.Prelude.{ℕ, Option, Some, None, cond, List, [], ◌∷◌, ◌++◌, eqb}
 use mir.Val.{bool_byte}
 use Rattle.arithmetic.specs.Number.{digits, number_at, flag_at}
 use Rattle.console.specs.declared.Cgb.{Cgb}
 use Rattle.console.specs.declared.CgbConsoleState.{CgbConsoleState}
-use Rattle.console.specs.declared.WakeLatency.{WakeLatency}
-use Rattle.console.specs.declared.WakeLatency.TheVariants.{None, Some}
 
-abbrev pub latency_tag : WakeLatency → ℕ
+abbrev pub latency_tag : Option ℕ → ℕ
 latency_tag None = 0
 latency_tag (Some n) = 1
 
-abbrev pub latency_value : WakeLatency → ℕ
+abbrev pub latency_value : Option ℕ → ℕ
 latency_value None = 0
 latency_value (Some n) = n
 
-abbrev pub latency_of : ℕ → ℕ → WakeLatency
+abbrev pub latency_of : ℕ → ℕ → Option ℕ
 latency_of tag value = cond (eqb tag 0) None (Some value)
 
 -- bytes 41 to 55

@@ -3,7 +3,7 @@ ghost use Rattle.std.specs.Prelude.{◌≡◌};
 ghost use Rattle.std.proofs.lemmas.List.Edits.{sets};
 ghost use Rattle.codec.specs.Arb.{arb_bytes, arb_of};
 
-use crate::run::{eight_at, place};
+use crate::run::place;
 use console::vram_dma::HaltArbiter;
 use countdown::Countdown;
 
@@ -35,23 +35,21 @@ pub(crate) fn put_arb(out: &mut [u8; 248], a: HaltArbiter)
 pub(crate) fn arb_of(b: &[u8; 248]) -> HaltArbiter
     ensures { result ≡ arb_of b.now }
 {
-    let x = eight_at(b, 24);
-    let y = eight_at(b, 32);
     HaltArbiter {
-        pend: x.b0 == 1,
-        pend_from_arm: x.b1 == 1,
-        armed_this_fall: x.b2 == 1,
-        halted_falls: x.b3,
-        prev_view_hblank: x.b4 == 1,
-        pend_age: x.b5,
-        pend_granted: x.b6 == 1,
-        wake_tenure: Countdown(x.b7),
-        park_waits_for_fetch: y.b0 == 1,
-        idle_claim: y.b1 == 1,
-        halt_wake_blind: Countdown(y.b2),
-        prev_cpu_halted: y.b3 == 1,
-        grant_counted: y.b4 == 1,
-        wake_pend_blind: Countdown(y.b5),
-        granted_ahead: y.b6,
+        pend: b[24] == 1,
+        pend_from_arm: b[25] == 1,
+        armed_this_fall: b[26] == 1,
+        halted_falls: b[27],
+        prev_view_hblank: b[28] == 1,
+        pend_age: b[29],
+        pend_granted: b[30] == 1,
+        wake_tenure: Countdown(b[31]),
+        park_waits_for_fetch: b[32] == 1,
+        idle_claim: b[33] == 1,
+        halt_wake_blind: Countdown(b[34]),
+        prev_cpu_halted: b[35] == 1,
+        grant_counted: b[36] == 1,
+        wake_pend_blind: Countdown(b[37]),
+        granted_ahead: b[38],
     }
 }

@@ -20,36 +20,22 @@ use console::{Cgb, CgbVram};
 use cursor::{cursor_of, put_cursor};
 use oam::{oam_of, put_oam};
 use object::{object_of, put_object};
-use rest::{console_of, extra_of, latency_of, put_bank, put_extra, put_registers, registers_of};
-use run::same;
-
-// What bytes read as, and whether they are canonical: exactly what `encode` writes of that.
-#[derive(Clone, Copy)]
-pub struct Decoded {
-    pub valid: bool,
-    pub state: Cgb,
-}
+use rest::{console_of, latency_of, put_bank, put_extra, put_registers};
+use run::{bytes_at, same};
 
 #[tactic(auto, unfolding(crate::proofs::State::sized))]
 pub fn encode(state: Cgb) -> [u8; 248]
     ensures { result ≡ encode_of state }
 {
     let mut out = [0; 248];
-    let cursor = state.vram_dma.cursor;
-    put_cursor(&mut out, cursor);
-    let block = state.vram_dma.block;
-    put_block(&mut out, block);
-    let arb = state.vram_dma.arb;
-    put_arb(&mut out, arb);
-    let oam = state.vram_dma.oam;
-    put_oam(&mut out, oam);
+    put_cursor(&mut out, state.vram_dma.cursor);
+    put_block(&mut out, state.vram_dma.block);
+    put_arb(&mut out, state.vram_dma.arb);
+    put_oam(&mut out, state.vram_dma.oam);
     put_registers(&mut out, state);
-    let extra = state.extra_oam;
-    put_extra(&mut out, extra);
-    let console = state.console_state;
-    put_bank(&mut out, state.vram.selected, console);
-    let object = state.object_dma;
-    put_object(&mut out, object);
+    put_extra(&mut out, state.extra_oam);
+    put_bank(&mut out, state.vram.selected, state.console_state);
+    put_object(&mut out, state.object_dma);
     out
 }
 
@@ -65,38 +51,38 @@ fn dma_of(b: &[u8; 248]) -> VramDma
     }
 }
 
+// What any bytes read as, canonical or not.
 #[tactic(auto, unfolding(crate::specs::Codec::state_of))]
-fn state_of(b: &[u8; 248]) -> Cgb
-    ensures { result ≡ state_of b.now }
+pub fn state_of(bytes: &[u8; 248]) -> Cgb
+    ensures { result ≡ state_of bytes.now }
 {
-    let r = registers_of(b);
     Cgb {
-        svbk: r.svbk,
-        key1_armed: r.key1_armed,
-        double_speed: r.double_speed,
-        dmg_compat: r.dmg_compat,
-        vram_dma: dma_of(b),
-        speed_switch_blackout: r.blackout,
-        speed_switch_wake_latency: latency_of(b),
-        switch_relock_debit: r.relock,
-        ff72: r.ff72,
-        ff73: r.ff73,
-        ff74: r.ff74,
-        ff75: r.ff75,
-        extra_oam: extra_of(b),
-        vram: CgbVram { selected: b[80] },
-        console_state: console_of(b),
-        object_dma: object_of(b),
+        svbk: bytes[41],
+        key1_armed: bytes[42] == 1,
+        double_speed: bytes[43] == 1,
+        dmg_compat: bytes[44] == 1,
+        vram_dma: dma_of(bytes),
+        speed_switch_blackout: u32::from_le_bytes(bytes_at(bytes, 45)),
+        speed_switch_wake_latency: latency_of(bytes),
+        switch_relock_debit: bytes[51] == 1,
+        ff72: bytes[52],
+        ff73: bytes[53],
+        ff74: bytes[54],
+        ff75: bytes[55],
+        extra_oam: bytes_at(bytes, 56),
+        vram: CgbVram {
+            selected: bytes[80],
+        },
+        console_state: console_of(bytes),
+        object_dma: object_of(bytes),
     }
 }
 
+// The state that canonical bytes say: those that it is written as, and no other.
 #[tactic(auto, unfolding(crate::specs::Codec::decode_of))]
-pub fn decode(bytes: [u8; 248]) -> Decoded
+pub fn decode(bytes: [u8; 248]) -> Option<Cgb>
     ensures { result ≡ decode_of bytes }
 {
     let state = state_of(&bytes);
-    Decoded {
-        valid: same(encode(state), bytes),
-        state: state,
-    }
+    same(encode(state), bytes).then_some(state)
 }

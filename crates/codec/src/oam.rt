@@ -10,8 +10,7 @@ use console::vram_dma::OamContention;
 pub(crate) fn put_oam(out: &mut [u8; 248], o: OamContention)
     ensures { out.new ≡ sets out.old 39 (oam_bytes o) }
 {
-    let part = [o.was_transferring as u8, o.contended as u8];
-    place(out, 39, &part);
+    place(out, 39, &[o.was_transferring as u8, o.contended as u8]);
 }
 
 #[tactic(auto, unfolding(crate::specs::Oam::oam_of))]

@@ -1,7 +1,6 @@
 // No code: a theorem about the type of the state.
 ghost use Rattle.codec.specs.Fits.{Fits};
 
-use crate::rest::into_tagged;
 use console::Cgb;
 
 // Whatever state code holds, each field is within its type's width. The laws of the round trip (specs/RoundTrip.antt) ask for
@@ -9,6 +8,6 @@ use console::Cgb;
 fn every_state_fits(state: Cgb)
     ensures { Fits state }
 {
-    let l = state.speed_switch_wake_latency;
-    let _latency = into_tagged(l);
+    // Its width is that of the byte that it is written as.
+    let _latency = state.speed_switch_wake_latency.unwrap_or(0);
 }

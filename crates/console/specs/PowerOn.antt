@@ -1,11 +1,10 @@
 -- The state at power-on (document 01, section 1: "Power-on takes the compat flag; other fields are `Default`'s").
 -- The Rust's `Default` of `Cgb` has svbk 1; every other number is 0 and every other flag false. Document 02, A1: "the start edge, 0 at
 -- power-on, where object DMA rests".
-use Rattle.std.specs.Prelude.{Bool, false, replicate}
+use Rattle.std.specs.Prelude.{Bool, false, None, replicate}
 use Rattle.countdown.specs.Countdown.{cleared}
 use Rattle.console.specs.declared.Cgb.{Cgb}
 use Rattle.console.specs.declared.CgbConsoleState.{CgbConsoleState}
-use Rattle.console.specs.declared.WakeLatency.TheVariants as latency
 use Rattle.console.specs.declared.object.ObjectDma.{ObjectDma}
 use Rattle.console.specs.declared.vram_dma.HaltArbiter.{HaltArbiter}
 use Rattle.console.specs.declared.vram_dma.HblankBlock.{HblankBlock}
@@ -71,7 +70,7 @@ power_on_of compat =
       dmg_compat = compat;
       vram_dma = dma_at_rest;
       speed_switch_blackout = 0;
-      speed_switch_wake_latency = latency.None;
+      speed_switch_wake_latency = None;
       switch_relock_debit = false;
       ff72 = 0;
       ff73 = 0;

@@ -1,8 +1,11 @@
 -- Refusal 7 (document 01, "Declined by input"): "a state that no run leaves: quota above 2, block above 16, left above
 -- 2,048, FF70 above 7, FF4F's bank above 1, or left 0 in a mode other than Idle". Document 02, A1: "7 gains more than 160 moved bytes
 -- and a page above DFh".
-use Rattle.std.specs.Prelude.{◌≡◌, ℕ, ◌≤◌, Bool, true, false, ◌&&◌, ◌||◌, not, List, [], ◌∷◌, ltb, eqb}
+use Rattle.std.specs.Prelude.{◌≡◌, ℕ, ◌≤◌, Bool, true, false, ◌&&◌, ◌||◌, not, List, [], ◌∷◌, Option, ltb, eqb}
 use Rattle.console.specs.Modes.{is_idle}
+use Rattle.console.specs.Refusals.{◌⇒◌, first_of}
+use Rattle.console.specs.declared.refusal.Refusal.{Refusal}
+use Rattle.console.specs.declared.refusal.Refusal.TheVariants.{State}
 use Rattle.console.specs.declared.Cgb.{Cgb}
 use Rattle.console.specs.declared.object.ObjectDma.{ObjectDma}
 use Rattle.console.specs.declared.vram_dma.TransferMode.{TransferMode}
@@ -38,6 +41,10 @@ unreached_tests s =
 
 unfoldable pub unreached : Cgb → Bool
 unreached s = any_of (unreached_tests s)
+
+-- the refusal of a call that 7 alone declines
+unfoldable pub state_refusal : Cgb → Option Refusal
+state_refusal s = first_of ((unreached s ⇒ State) ∷ [])
 
 -- the same as facts, of the quantities that a part's tests look at
 pub record EngineWithin (q b l : ℕ) (m : TransferMode) : Type 0 where

@@ -10,15 +10,8 @@ pub mod vram_dma;
 use crate::object::ObjectDma;
 use vram_dma::VramDma;
 
-// The wake intake's countdown, `Option<u8>` in the Rust: no wake in flight, or the M-cycle boundaries left of it.
-#[derive(Clone, Copy)]
-pub enum WakeLatency {
-    None,
-    Some(u8),
-}
-
 // The claim of the last commit (missingno_gb, `VramDmaClaim`); both flags are false until the first.
-#[derive(Clone, Copy)]
+#[derive(Clone, Copy, Default)]
 pub struct VramDmaClaim {
     // A block has committed.
     pub committed: bool,
@@ -27,7 +20,7 @@ pub struct VramDmaClaim {
 }
 
 // Console-level state. Hold and suspension are inputs of the calls that look at them.
-#[derive(Clone, Copy)]
+#[derive(Clone, Copy, Default)]
 pub struct CgbConsoleState {
     // The master edge of the last switch: where the count of its blackout begins. No call looks at it.
     pub blackout_anchor: u64,
@@ -36,7 +29,7 @@ pub struct CgbConsoleState {
 }
 
 // The bank that VBK (FF4F) selects; the banks themselves are lent memory.
-#[derive(Clone, Copy)]
+#[derive(Clone, Copy, Default)]
 pub struct CgbVram {
     // VBK (FF4F) bit 0.
     pub selected: u8,
@@ -56,8 +49,8 @@ pub struct Cgb {
     pub vram_dma: VramDma,
     // Master edges left of a switch's blackout; 0 is none.
     pub speed_switch_blackout: u32,
-    // A wake that comes in a blackout takes its intake first: what is left of that.
-    pub speed_switch_wake_latency: WakeLatency,
+    // A wake that comes in a blackout takes its intake first: the M-cycle boundaries left of that; none where no wake is in flight.
+    pub speed_switch_wake_latency: Option<u8>,
     // The clock lies displaced since an upward switch at dot phase 3: it shortens the next downward blackout by 2 edges and
     // lengthens the next upward one by 2, which spends it.
     pub switch_relock_debit: bool,

@@ -1,6 +1,6 @@
 // Object DMA (document 02, A1; Pan Docs, "OAM DMA Transfer"; document 01 calls it OAM DMA): a write to FF46 moves 160 bytes into OAM.
 
-#[derive(Clone, Copy)]
+#[derive(Clone, Copy, Default)]
 pub struct ObjectDma {
     // A write to FF46 has started it; the 160th byte counted clears it. It runs while this stands and fewer are counted.
     pub running: bool,

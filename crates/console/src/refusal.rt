@@ -1,33 +1,71 @@
-// The papers' numbers for declined calls, and the test behind 7.
+// Declined calls: the papers' numbers, and the test behind 7.
 ghost use Rattle.std.specs.Prelude.{◌≡◌};
-ghost use Rattle.console.specs.Reached.{unreached};
+ghost use Rattle.console.specs.Reached.{unreached, state_refusal};
+ghost use Rattle.console.specs.Refusals.{refusal_number, answered};
 
 use crate::Cgb;
+use crate::vram_dma::TransferMode;
+use std::error::Error;
+use std::fmt;
 
-// A mode above 3.
-pub const MODE: u8 = 1;
-// A lent slice of another length.
-pub const LENGTH: u8 = 2;
-// A dot phase above 4.
-pub const PHASE: u8 = 3;
-// An address that is not in the call's map.
-pub const ADDRESS: u8 = 4;
-// A switch under hold.
-pub const HELD: u8 = 5;
-// A record of other kind, or short.
-pub const RECORD: u8 = 6;
-// A state that no run leaves.
-pub const STATE: u8 = 7;
-// A blackout is running.
-pub const BLACKOUT: u8 = 11;
-// KEY1 is not armed.
-pub const UNARMED: u8 = 12;
-// Downward with a ready block.
-pub const DEFERRED: u8 = 13;
-// A commit not already counted would raise granted from 255.
-pub const GRANTED: u8 = 14;
-// Document 02, A1: a page of object DMA above DF.
-pub const PAGE: u8 = 21;
+// The reasons to decline a call, each with its number.
+#[derive(Clone, Copy, Debug, PartialEq, Eq)]
+pub enum Refusal {
+    // A mode above 3.
+    Mode = 1,
+    // A lent slice of another length.
+    Length = 2,
+    // A dot phase above 4.
+    Phase = 3,
+    // An address that is not in the call's map.
+    Address = 4,
+    // A switch under hold.
+    Held = 5,
+    // A record of other kind, or short.
+    Record = 6,
+    // A state that no run leaves.
+    State = 7,
+    // A blackout is running.
+    Blackout = 11,
+    // KEY1 is not armed.
+    Unarmed = 12,
+    // Downward with a ready block.
+    Deferred = 13,
+    // A commit not already counted would raise granted from 255.
+    Granted = 14,
+    // Document 02, A1: a page of object DMA above DF.
+    Page = 21,
+}
+
+// Its number in the papers.
+impl From<Refusal> for u8 {
+    ghost from_gives = { λ refusal number. number ≡ refusal_number refusal };
+
+    fn from(refusal: Refusal) -> u8 {
+        refusal as u8
+    }
+}
+
+impl fmt::Display for Refusal {
+    fn fmt<W: fmt::Write>(&self, f: &mut fmt::Formatter<W>) -> fmt::Result {
+        match self {
+            Refusal::Mode => write!(f, "1: a mode above 3"),
+            Refusal::Length => write!(f, "2: a slice of another length"),
+            Refusal::Phase => write!(f, "3: a dot phase above 4"),
+            Refusal::Address => write!(f, "4: an address that is not in the map"),
+            Refusal::Held => write!(f, "5: a switch under hold"),
+            Refusal::Record => write!(f, "6: a record of another kind, or a short one"),
+            Refusal::State => write!(f, "7: a state that no run leaves"),
+            Refusal::Blackout => write!(f, "11: a blackout is running"),
+            Refusal::Unarmed => write!(f, "12: KEY1 is not armed"),
+            Refusal::Deferred => write!(f, "13: downward with a ready block"),
+            Refusal::Granted => write!(f, "14: a commit that granted has no room for"),
+            Refusal::Page => write!(f, "21: a page of object DMA above DF"),
+        }
+    }
+}
+
+impl Error for Refusal {}
 
 impl Cgb {
     // Refusal 7: one of its eight tests holds. In the papers' order, but for the last of document 01: the four in front of it are of
@@ -36,8 +74,7 @@ impl Cgb {
         ensures { result ≡ unreached self }
     {
         let c = self.vram_dma.cursor;
-        let mode = c.mode;
-        let idle = mode.is_idle();
+        let idle = c.mode == TransferMode::Idle;
         (c.quota > 2)
             | (self.vram_dma.block.remaining > 16)
             | (c.remaining > 2048)
@@ -46,5 +83,15 @@ impl Cgb {
             | (self.object_dma.counted > 160)
             | (self.object_dma.page > 0xDF)
             | ((c.remaining == 0) & !idle)
+    }
+    // The first test of every call.
+    #[tactic(auto, unfolding(crate::specs::Reached::state_refusal))]
+    pub fn reached(self) -> Result<(), Refusal>
+        ensures { result ≡ answered (state_refusal self) tt }
+    {
+        if self.unreached() {
+            return Err(Refusal::State);
+        }
+        Ok(())
     }
 }

@@ -1,59 +1,18 @@
 // The state of the transfer engine: the structs of vram_dma.rs, field for field. docs/MANUAL.md says of each field what sets it and
 // what looks at it.
-ghost use Rattle.std.specs.Prelude.{◌≡◌, cond};
-ghost use Rattle.console.specs.Modes.{is_idle, is_general, is_hblank};
-
 use countdown::Countdown;
 
 // How the active transfer is paced: General holds the CPU and flows; HBlank, "armed", moves a block of 16 bytes in an HBlank.
-#[derive(Clone, Copy)]
+#[derive(Clone, Copy, PartialEq, Eq, Default)]
 pub enum TransferMode {
+    #[default]
     Idle,
     General,
     HBlank,
 }
 
-// `==` on `TransferMode` in the Rust.
-impl TransferMode {
-    pub fn is_idle(self) -> bool
-        ensures { result ≡ is_idle self }
-    {
-        match self {
-            TransferMode::Idle => true,
-            TransferMode::General => false,
-            TransferMode::HBlank => false,
-        }
-    }
-
-    pub fn is_general(self) -> bool
-        ensures { result ≡ is_general self }
-    {
-        match self {
-            TransferMode::Idle => false,
-            TransferMode::General => true,
-            TransferMode::HBlank => false,
-        }
-    }
-
-    pub fn is_hblank(self) -> bool
-        ensures { result ≡ is_hblank self }
-    {
-        match self {
-            TransferMode::Idle => false,
-            TransferMode::General => false,
-            TransferMode::HBlank => true,
-        }
-    }
-}
-
-pub fn pick_mode(c: bool, a: TransferMode, b: TransferMode) -> TransferMode
-    ensures { result ≡ cond c a b }
-{
-    if c { a } else { b }
-}
-
 // The running byte engine. The pointers persist after a transfer: the next one goes on where they stand.
-#[derive(Clone, Copy)]
+#[derive(Clone, Copy, Default)]
 pub struct TransferCursor {
     // Where the next byte is read: the running register of FF51 and FF52.
     pub source: u16,
@@ -70,7 +29,7 @@ pub struct TransferCursor {
 }
 
 // The 16-byte block of one HBlank, and its bus tenure.
-#[derive(Clone, Copy)]
+#[derive(Clone, Copy, Default)]
 pub struct HblankBlock {
     // Bytes left in the latched block: "block". 0 is none.
     pub remaining: u8,
@@ -92,7 +51,7 @@ pub struct HblankBlock {
 
 // The pend and grant arbiter of HBlank blocks, across HALT and wake. `pend_from_arm` and `pend_granted` are marks on a pend, not
 // kinds of it: both may stand, and `pend_granted` may outlive the pend.
-#[derive(Clone, Copy)]
+#[derive(Clone, Copy, Default)]
 pub struct HaltArbiter {
     // A block is asked for: the next ungated fall commits it, asks anew or drops it.
     pub pend: bool,
@@ -127,7 +86,7 @@ pub struct HaltArbiter {
 }
 
 // The shared bus of OAM DMA and VRAM DMA.
-#[derive(Clone, Copy)]
+#[derive(Clone, Copy, Default)]
 pub struct OamContention {
     // OAM DMA drove a byte at the last arbitration: the M-cycle in which it ends still shares the bus.
     pub was_transferring: bool,
@@ -135,7 +94,7 @@ pub struct OamContention {
     pub contended: bool,
 }
 
-#[derive(Clone, Copy)]
+#[derive(Clone, Copy, Default)]
 pub struct VramDma {
     // Pointers, mode, what is left.
     pub cursor: TransferCursor,

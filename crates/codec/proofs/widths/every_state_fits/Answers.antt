@@ -1,8 +1,13 @@
 -- Each bound is what the field's type says. Of a struct, `.1 .1` is the list of its fields; of a number, `.1` is its bound. The latency's is
 -- that of the byte it is written as.
 use borrow.Author.Rules.{elem_Fits}
-use Rattle.std.proofs.Common.{ℕ, ◌<◌, ap, subst, w8}
+use Rattle.std.proofs.Common.{◌≡◌, ℕ, ◌<◌, Option, Some, None, unwrap_or, w8, arith}
+use Rattle.codec.specs.Rest.{latency_value}
 use Rattle.codec.proofs.widths.every_state_fits.Goals as goal
+
+latency_small : (l : Option ℕ) (x : ℕ) → x ≡ unwrap_or l 0 → x < 256 → latency_value l < 256
+latency_small None x e h = omega arith
+latency_small (Some n) x e h = omega arith
 
 pub returns : goal.returns
 returns c =
@@ -37,7 +42,7 @@ returns c =
           };
       svbk = r.0.1;
       speed_switch_blackout = r4.1.0.1;
-      speed_switch_wake_latency = subst (λ (t : ℕ). t < 256) (ap (λ t. t.value) c.into_tagged-latency.ensures) c.into_tagged-latency.type_inv.1.1.1.0.1;
+      speed_switch_wake_latency = latency_small c.args.state.speed_switch_wake_latency _ c.unwrap_or-latency.ensures c.unwrap_or-latency.type_inv;
       ff72 = r8.0.1;
       ff73 = r8.1.0.1;
       ff74 = r8.1.1.0.1;

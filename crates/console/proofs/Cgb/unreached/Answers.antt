@@ -1,5 +1,5 @@
 -- The code's tests in the papers' order are those of the parts.
-use Rattle.std.proofs.Common.{◌≡◌, Bool, true, false, ◌&&◌, ◌||◌, not, ltb, eqb, refl}
+use Rattle.std.proofs.Common.{◌≡◌, Bool, true, false, ◌&&◌, ◌||◌, not, ltb, eqb, refl, rules}
 use Rattle.console.specs.Modes.{is_idle}
 use Rattle.console.specs.Reached.{unreached}
 use Rattle.console.proofs.Cgb.unreached.Goals as goal
@@ -28,7 +28,8 @@ unfolding unreached
 returns c =
     let s = c.args.self in
     let d = s.vram_dma in
-    rw c.is_idle-idle.ensures
+    let idle : c.eq-idle.result ≡ is_idle d.cursor.mode = search rules in
+    rw idle
     (by_part (ltb 2 d.cursor.quota) (ltb 16 d.block.remaining) (ltb 2048 d.cursor.remaining) (ltb 7 s.svbk)
     (ltb 1 s.vram.selected) (ltb 160 s.object_dma.counted) (ltb 0xDF s.object_dma.page)
     (eqb d.cursor.remaining 0 && not (is_idle d.cursor.mode)))
