@@ -6,11 +6,9 @@ ghost use Rattle.std.specs.Prelude.{◌≡◌};
 ghost use Rattle.transfer.specs.Questions.{write_address};
 ghost use Rattle.transfer.specs.Pair.{left_if, cursor_after, block_after, arb_after, advanced_of, cause_if};
 
-use arithmetic::pick::pick16;
-use arithmetic::step::{less_one, less_one_if, overflowing_add16, saturating_sub16};
-use console::vram_dma::{
-    HaltArbiter, HblankBlock, TransferCursor, TransferMode, VramDma, pick_mode,
-};
+use arithmetic::pick::pick;
+use arithmetic::step::overflowing_add16;
+use console::vram_dma::{HaltArbiter, HblankBlock, TransferCursor, TransferMode, VramDma};
 use transfer::pair::Cause;
 
 // The VRAM address that the next byte lands on.
@@ -24,26 +22,22 @@ pub fn write_address(c: TransferCursor) -> u16
 fn left_after(c: TransferCursor, carried: bool) -> u16
     ensures { result ≡ left_if carried c }
 {
-    let counted = pick16(c.escape_byte, c.remaining, saturating_sub16(c.remaining, 1));
-    pick16(carried, 0, counted)
+    let counted = pick(c.escape_byte, c.remaining, c.remaining.saturating_sub(1));
+    pick(carried, 0, counted)
 }
 
 #[tactic(auto, unfolding(transfer::specs::Pair::cursor_after))]
 fn cursor_after(c: TransferCursor) -> TransferCursor
     ensures { result ≡ cursor_after c }
 {
-    let dest = overflowing_add16(c.dest, 1);
-    let left = left_after(c, dest.carry);
-    let old = c.mode;
-    let mode = pick_mode(left == 0, TransferMode::Idle, old);
-    let source = std::num::wrapping_add_u16(c.source, 1);
-    let quota = less_one(c.quota);
+    let (dest, carried) = overflowing_add16(c.dest, 1);
+    let remaining = left_after(c, carried);
     TransferCursor {
-        source: source,
-        dest: dest.sum,
-        mode: mode,
-        remaining: left,
-        quota: quota,
+        source: c.source.wrapping_add(1),
+        dest,
+        mode: pick(remaining == 0, TransferMode::Idle, c.mode),
+        remaining,
+        quota: c.quota.saturating_sub(1),
         escape_byte: false,
     }
 }
@@ -53,9 +47,11 @@ fn block_after(b: HblankBlock) -> HblankBlock
     ensures { result ≡ block_after b }
 {
     let last = b.remaining == 1;
-    let remaining = less_one(b.remaining);
-    let left = rebuild::with_block_remaining(b, remaining);
-    rebuild::with_block_from_arm(left, b.from_arm & !last)
+    HblankBlock {
+        remaining: b.remaining.saturating_sub(1),
+        from_arm: b.from_arm & !last,
+        ..b
+    }
 }
 
 // last: the pair is the block's last one; ended: nothing is left.
@@ -63,15 +59,12 @@ fn block_after(b: HblankBlock) -> HblankBlock
 fn arb_after(a: HaltArbiter, last: bool, ended: bool) -> HaltArbiter
     ensures { result ≡ arb_after last ended a }
 {
-    let granted = less_one_if(last, a.granted_ahead);
-    let park = a.park_waits_for_fetch & !last;
-    let claim = a.idle_claim & !ended;
-    // In place, where other parts are made anew: so the pair's function stays small enough that the compiler lays it into its callers.
-    let mut after = a;
-    after.park_waits_for_fetch = park;
-    after.idle_claim = claim;
-    after.granted_ahead = granted;
-    after
+    HaltArbiter {
+        park_waits_for_fetch: a.park_waits_for_fetch & !last,
+        idle_claim: a.idle_claim & !ended,
+        granted_ahead: pick(last, a.granted_ahead.saturating_sub(1), a.granted_ahead),
+        ..a
+    }
 }
 
 #[tactic(auto, unfolding(transfer::specs::Pair::advanced_of, transfer::specs::Pair::cursor_after))]
@@ -80,11 +73,12 @@ pub fn advance(d: VramDma) -> VramDma
 {
     let last = d.block.remaining == 1;
     let cursor = cursor_after(d.cursor);
-    let block = block_after(d.block);
-    let arb = arb_after(d.arb, last, cursor.remaining == 0);
-    let moved = rebuild::with_dma_cursor(d, cursor);
-    let taken = rebuild::with_dma_block(moved, block);
-    rebuild::with_dma_arb(taken, arb)
+    VramDma {
+        cursor,
+        block: block_after(d.block),
+        arb: arb_after(d.arb, last, cursor.remaining == 0),
+        ..d
+    }
 }
 
 // How the run goes on (document 02, A3): carried: the destination went past FFFFh; left: after the pair.
@@ -92,10 +86,10 @@ pub fn cause(carried: bool, left: u16) -> Cause
     ensures { result ≡ cause_if carried left }
 {
     if carried {
-        return Cause::Carried;
+        Cause::Carried
+    } else if left == 0 {
+        Cause::CountedOut
+    } else {
+        Cause::GoingOn
     }
-    if left == 0 {
-        return Cause::CountedOut;
-    }
-    Cause::GoingOn
 }

@@ -5,10 +5,10 @@ use native.Mathlib.Omega.{arith}
 use mathlib.Core.Path.{◌≡◌, refl, sym}
 use mathlib.Core.Bool.{Bool, true, false, false≢true}
 use mathlib.Core.Logic.{◌↔◌, inl, inr, ⊎_elim}
+use Rattle.std.specs.Prelude.{Some}
 use borrow.Author.Tests.{ltb-true, lt-ltb, eqb-true, eq-eqb, ne_eqb}
 use Rattle.console.specs.Set.{with_speed_switch_wake_latency}
 use Rattle.console.specs.declared.Cgb.{Cgb}
-use Rattle.console.specs.declared.WakeLatency.TheVariants.{Some}
 use Rattle.blackout.specs.Blackout.{divider_active, drained_of, woken_of}
 use Rattle.blackout.specs.BlackoutSteps.{DividerRuns, BlackoutSteps, DrainSteps, WakeSteps}
 

@@ -1,9 +1,7 @@
 -- Blackout and wake intake (speed_switch.rs; document 01, section 4: "blackout and wake intake act as the Rust methods").
-use Rattle.std.specs.Prelude.{ℕ, ◌-◌, Bool, cond, ltb, eqb}
+use Rattle.std.specs.Prelude.{ℕ, ◌-◌, Bool, cond, Option, None, Some, ltb, eqb}
 use Rattle.console.specs.Set.{with_speed_switch_blackout, with_speed_switch_wake_latency}
 use Rattle.console.specs.declared.Cgb.{Cgb}
-use Rattle.console.specs.declared.WakeLatency.{WakeLatency}
-use Rattle.console.specs.declared.WakeLatency.TheVariants.{None, Some}
 use Rattle.blackout.specs.declared.Flagged.{Flagged}
 
 -- section 4: "5 or 2", by the new speed
@@ -21,7 +19,7 @@ abbrev pub drained : ℕ → ℕ → ℕ
 drained elapsed blackout = blackout - elapsed
 
 -- at 0 the wake in flight is forgotten
-abbrev pub latency_after_drain : Bool → WakeLatency → WakeLatency
+abbrev pub latency_after_drain : Bool → Option ℕ → Option ℕ
 latency_after_drain ended latency = cond ended None latency
 
 -- the flag: now 0
@@ -36,7 +34,7 @@ drained_of elapsed s =
     }
 
 -- none in flight: 1; else one less at an M-cycle boundary, not below 0
-abbrev pub latency_after_wake : Bool → WakeLatency → ℕ
+abbrev pub latency_after_wake : Bool → Option ℕ → ℕ
 latency_after_wake boundary None = 1
 latency_after_wake boundary (Some n) = cond boundary (n - 1) n
 

@@ -1,9 +1,8 @@
 -- What is shown of a blackout's questions, of its drain and of the wake intake (speed_switch.rs; document 01, section 4:
 -- "blackout and wake intake act as the Rust methods"). `⊎` is "or".
-use Rattle.std.specs.Prelude.{ℕ, ◌+◌, ◌-◌, ◌<◌, ◌≤◌, ◌≡◌, Bool, true, false, ◌↔◌, ◌⊎◌, eqb}
+use Rattle.std.specs.Prelude.{ℕ, ◌+◌, ◌-◌, ◌<◌, ◌≤◌, ◌≡◌, Bool, true, false, ◌↔◌, ◌⊎◌, None, Some, eqb}
 use Rattle.console.specs.Set.{with_speed_switch_blackout, with_speed_switch_wake_latency}
 use Rattle.console.specs.declared.Cgb.{Cgb}
-use Rattle.console.specs.declared.WakeLatency.TheVariants.{None, Some}
 use Rattle.blackout.specs.Blackout.{blackout_active, divider_active, drained_of, woken_of}
 
 -- `blackout_divider_active`: "The divider runs through the hold but freezes during the relock tail": the last 5 edges after a

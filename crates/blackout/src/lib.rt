@@ -4,13 +4,11 @@
 
 ghost use Rattle.std.specs.Prelude.{◌≡◌};
 ghost use Rattle.blackout.specs.Blackout.{relock_edges, blackout_active, divider_active, latency_after_drain, latency_after_wake, drained_of, woken_of};
-ghost use Rattle.console.specs.Set.{with_speed_switch_blackout, with_speed_switch_wake_latency};
 
-use arithmetic::pick::pick32;
-use arithmetic::step::{less_one_if, saturating_sub32};
-use console::{Cgb, WakeLatency};
+use arithmetic::pick::pick;
+use console::Cgb;
 
-// A flag, with the state after.
+// A flag, with the state after: both hold in every case, so no `Option` has this shape.
 #[derive(Clone, Copy)]
 pub struct Flagged {
     pub flag: bool,
@@ -21,7 +19,7 @@ pub struct Flagged {
 pub fn relock_edges(double_speed: bool) -> u32
     ensures { result ≡ relock_edges double_speed }
 {
-    pick32(double_speed, 5, 2)
+    pick(double_speed, 5, 2)
 }
 
 pub fn blackout_active(blackout: u32) -> bool
@@ -38,17 +36,10 @@ pub fn blackout_divider_active(double_speed: bool, blackout: u32) -> bool
 }
 
 // A blackout that has run out forgets the wake in flight.
-fn latency_after_drain(ended: bool, latency: WakeLatency) -> WakeLatency
+fn latency_after_drain(ended: bool, latency: Option<u8>) -> Option<u8>
     ensures { result ≡ latency_after_drain ended latency }
 {
-    if ended { WakeLatency::None } else { latency }
-}
-
-fn with_latency(s: Cgb, blackout: u32, latency: WakeLatency) -> Cgb
-    ensures { result ≡ with_speed_switch_blackout blackout (with_speed_switch_wake_latency latency s) }
-{
-    let woken = rebuild::with_speed_switch_wake_latency(s, latency);
-    rebuild::with_speed_switch_blackout(woken, blackout)
+    pick(ended, None, latency)
 }
 
 // The flag: the blackout is over.
@@ -56,23 +47,25 @@ fn with_latency(s: Cgb, blackout: u32, latency: WakeLatency) -> Cgb
 pub fn drain_blackout(s: Cgb, elapsed: u32) -> Flagged
     ensures { result ≡ drained_of elapsed s }
 {
-    let left = saturating_sub32(s.speed_switch_blackout, elapsed);
-    let old = s.speed_switch_wake_latency;
-    let latency = latency_after_drain(left == 0, old);
-    let state = with_latency(s, left, latency);
+    let left = s.speed_switch_blackout.saturating_sub(elapsed);
+    let latency = latency_after_drain(left == 0, s.speed_switch_wake_latency);
     Flagged {
         flag: left == 0,
-        state: state,
+        state: Cgb {
+            speed_switch_blackout: left,
+            speed_switch_wake_latency: latency,
+            ..s
+        },
     }
 }
 
 // The first call arms one M-cycle of latency; a boundary steps it.
-fn latency_after_wake(latency: WakeLatency, mcycle_boundary: bool) -> u8
+fn latency_after_wake(latency: Option<u8>, mcycle_boundary: bool) -> u8
     ensures { result ≡ latency_after_wake mcycle_boundary latency }
 {
     match latency {
-        WakeLatency::None => 1,
-        WakeLatency::Some(n) => less_one_if(mcycle_boundary, n),
+        None => 1,
+        Some(n) => pick(mcycle_boundary, n.saturating_sub(1), n),
     }
 }
 
@@ -81,11 +74,12 @@ fn latency_after_wake(latency: WakeLatency, mcycle_boundary: bool) -> u8
 pub fn wake_intake_ready(s: Cgb, mcycle_boundary: bool) -> Flagged
     ensures { result ≡ woken_of mcycle_boundary s }
 {
-    let old = s.speed_switch_wake_latency;
-    let n = latency_after_wake(old, mcycle_boundary);
-    let state = with_latency(s, s.speed_switch_blackout, WakeLatency::Some(n));
+    let n = latency_after_wake(s.speed_switch_wake_latency, mcycle_boundary);
     Flagged {
         flag: n == 0,
-        state: state,
+        state: Cgb {
+            speed_switch_wake_latency: Some(n),
+            ..s
+        },
     }
 }

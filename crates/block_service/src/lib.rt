@@ -13,9 +13,11 @@ pub fn step_blinds(d: VramDma, v: View) -> VramDma
     ensures { result ≡ blinds_of v d }
 {
     let ticked = halt_arbiter::step_blinds(d.arb, v);
-    let arb = ticked.arb;
-    let block = hblank_block::take_if(d.block, ticked.passed_over);
-    rebuild::with_dma_block(rebuild::with_dma_arb(d, arb), block)
+    VramDma {
+        block: hblank_block::take_if(d.block, ticked.passed_over),
+        arb: ticked.arb,
+        ..d
+    }
 }
 
 fn committing(d: VramDma, v: View) -> bool
@@ -31,9 +33,11 @@ fn committing(d: VramDma, v: View) -> bool
 fn commit(d: VramDma, v: View, committing: bool) -> VramDma
     ensures { result ≡ commit_of committing v d }
 {
-    let arb = halt_arbiter::commit(d.arb, v, committing);
-    let block = hblank_block::commit(d.block, v, d.arb, committing);
-    rebuild::with_dma_block(rebuild::with_dma_arb(d, arb), block)
+    VramDma {
+        block: hblank_block::commit(d.block, v, d.arb, committing),
+        arb: halt_arbiter::commit(d.arb, v, committing),
+        ..d
+    }
 }
 
 // The wake drain's tenure consumes an entry that lands in it.
@@ -42,9 +46,11 @@ fn step_tenure(d: VramDma, v: View) -> VramDma
     ensures { result ≡ tenure_of v d }
 {
     let ticked = halt_arbiter::step_tenure(d.arb, v, d.cursor.remaining > 0);
-    let arb = ticked.arb;
-    let block = hblank_block::take_if(d.block, ticked.passed_over);
-    rebuild::with_dma_block(rebuild::with_dma_arb(d, arb), block)
+    VramDma {
+        block: hblank_block::take_if(d.block, ticked.passed_over),
+        arb: ticked.arb,
+        ..d
+    }
 }
 
 #[tactic(auto, unfolding(fall_stages::specs::Fall::pend_of))]
@@ -57,25 +63,30 @@ fn renew_pend(d: VramDma, v: View, committing: bool) -> VramDma
         & !d.block.taken
         & (d.cursor.remaining > 0)
         & (d.block.remaining == 0);
-    let arb = halt_arbiter::renew_pend(d.arb, pends);
-    rebuild::with_dma_arb(d, arb)
+    VramDma {
+        arb: halt_arbiter::renew_pend(d.arb, pends),
+        ..d
+    }
 }
 
 #[tactic(auto, unfolding(fall_stages::specs::Fall::readiness_of))]
 fn step_readiness(d: VramDma, double_speed: bool) -> VramDma
     ensures { result ≡ readiness_of double_speed d }
 {
-    let block = hblank_block::step_readiness(d.block, double_speed);
-    rebuild::with_dma_block(d, block)
+    VramDma {
+        block: hblank_block::step_readiness(d.block, double_speed),
+        ..d
+    }
 }
 
 #[tactic(auto, unfolding(fall_stages::specs::Fall::seizure_of))]
 fn count_seizure(d: VramDma) -> VramDma
     ensures { result ≡ seizure_of d }
 {
-    let seizes = dma_status::seizes_bus(d);
-    let block = hblank_block::count_seizure(d.block, seizes);
-    rebuild::with_dma_block(d, block)
+    VramDma {
+        block: hblank_block::count_seizure(d.block, dma_status::seizes_bus(d)),
+        ..d
+    }
 }
 
 // What follows the decision to commit or not.
@@ -96,15 +107,11 @@ pub fn decide(given: VramDma, d: VramDma, v: View) -> Fallen
     ensures { result ≡ decided_of v given d }
 {
     let committing = committing(d, v);
-    let overflow = committing & !d.arb.grant_counted & (d.arb.granted_ahead == 255);
-    if overflow {
+    if committing & !d.arb.grant_counted & (d.arb.granted_ahead == 255) {
         return Fallen {
             refused: true,
-            claim: VramDmaClaim {
-                committed: false,
-                standing: false,
-            },
-            dma: rebuild::dma(given),
+            claim: VramDmaClaim::default(),
+            dma: given,
         };
     }
     let dma = serve(d, v, committing);
@@ -114,6 +121,6 @@ pub fn decide(given: VramDma, d: VramDma, v: View) -> Fallen
             committed: committing,
             standing: committing & (dma.arb.pend_age >= 4) & !v.oam_owns_bus,
         },
-        dma: dma,
+        dma,
     }
 }

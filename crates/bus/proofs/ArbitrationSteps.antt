@@ -1,6 +1,4 @@
 -- Arbitration answers exactly when the Rust's conditions hold (specs, `ArbitrationSteps`). Assumes nothing.
-use Prim.Native.Nat.{ℕ}
-use native.Mathlib.Omega.{arith}
 use mathlib.Core.Path.{◌≡◌, refl, sym, ◌∙◌}
 use mathlib.Core.Bool.{Bool, true, false, not, ◌&&◌, ◌||◌, false≢true}
 use mathlib.Core.Logic.Iff
@@ -18,19 +16,19 @@ use Rattle.bus.specs.declared.arbitration.ArbitrationInput.{ArbitrationInput}
 said_contended : (c s : Bool) → (arbitration_of c s ≡ Contended) ↔ (c ≡ true)
 unfolding arbitration_of
 said_contended true s = (λ e. refl, λ e. refl)
-said_contended false true = (λ e. let z : ◌≡◌ {A = ℕ} 0 1 = cc in absurd (omega arith), λ e. absurd (false≢true e))
-said_contended false false = (λ e. let z : ◌≡◌ {A = ℕ} 0 1 = cc in absurd (omega arith), λ e. absurd (false≢true e))
+said_contended false true = (λ e. cc, λ e. absurd (false≢true e))
+said_contended false false = (λ e. cc, λ e. absurd (false≢true e))
 
 said_stall : (c s : Bool) → (s ≡ true → c ≡ false) → (arbitration_of c s ≡ Stall) ↔ (s ≡ true)
 unfolding arbitration_of
-said_stall true s apart = (λ e. let z : ◌≡◌ {A = ℕ} 0 1 = cc in absurd (omega arith), λ e. absurd (false≢true (sym (apart e))))
+said_stall true s apart = (λ e. cc, λ e. absurd (false≢true (sym (apart e))))
 said_stall false true apart = (λ e. refl, λ e. refl)
-said_stall false false apart = (λ e. let z : ◌≡◌ {A = ℕ} 0 1 = cc in absurd (omega arith), λ e. absurd (false≢true e))
+said_stall false false apart = (λ e. cc, λ e. absurd (false≢true e))
 
 said_clear : (c s : Bool) → (arbitration_of c s ≡ Clear) ↔ ((c ≡ false) × (s ≡ false))
 unfolding arbitration_of
-said_clear true s = (λ e. let z : ◌≡◌ {A = ℕ} 0 1 = cc in absurd (omega arith), λ h. absurd (false≢true (sym h.0)))
-said_clear false true = (λ e. let z : ◌≡◌ {A = ℕ} 0 1 = cc in absurd (omega arith), λ h. absurd (false≢true (sym h.1)))
+said_clear true s = (λ e. cc, λ h. absurd (false≢true (sym h.0)))
+said_clear false true = (λ e. cc, λ h. absurd (false≢true (sym h.1)))
 said_clear false false = (λ e. (refl, refl), λ h. refl)
 
 module _ (i : ArbitrationInput) (d : VramDma) where

@@ -8,6 +8,7 @@ use mathlib.Core.Logic.{◌↔◌, ⊎_elim}
 use native.Mathlib.Nat.{eq-zero-or-pos}
 use lib.ListN.{length}
 use borrow.Author.Tests.{lt-ltb}
+use Rattle.std.specs.Prelude.{Some, None}
 use Rattle.countdown.specs.Countdown.{active_of}
 use Rattle.countdown.specs.declared.Countdown.{Countdown}
 use Rattle.console.specs.Modes.{is_general}
@@ -19,7 +20,6 @@ use Rattle.transfer.specs.PairsLeft.{pairs_left, movable}
 use Rattle.transfer.specs.PairSteps.{Ready}
 use Rattle.transfer.specs.declared.pair.BytePair.{BytePair}
 use Rattle.transfer.specs.declared.pair.Cause.{Cause}
-use Rattle.transfer.specs.declared.pair.NextAnswer.TheVariants.{Pair, None}
 use Rattle.transfer.proofs.Keeps.{keeps_refl, next_keeps, keeps}
 use Rattle.transfer.proofs.PairsLeft.{pairs_left_lem}
 use Rattle.transfer.proofs.PairSteps.{pair_steps, no_pair_lem, is_ready}
@@ -74,7 +74,7 @@ counted d = by_pairs (λ d t. d.cursor.dest < 65536 → Counted d t) over on d
     over d e low = record { count = none_movable d low e; rest = omega arith }
 
     on :
-        (d : VramDma) (p : BytePair) (k : Cause) (t : Taken) → (next_byte_of d).answer ≡ Pair p k →
+        (d : VramDma) (p : BytePair) (k : Cause) (t : Taken) → (next_byte_of d).answer ≡ Some (p, k) →
         ((next_byte_of d).dma.cursor.dest < 65536 → Counted (next_byte_of d).dma t) → d.cursor.dest < 65536 →
         Counted d (record { dma = t.dma; pairs = p ∷ t.pairs; causes = k ∷ t.causes; setup = false })
     on d p k t e rest low =
@@ -123,7 +123,7 @@ marks_kept d e k =
 
 module _ (i : BusInput) (d : VramDma) where
   one :
-      (p : BytePair) (k : Cause) → holds_bus i ≡ true → setup_stands d ≡ false → (next_byte_of d).answer ≡ Pair p k →
+      (p : BytePair) (k : Cause) → holds_bus i ≡ true → setup_stands d ≡ false → (next_byte_of d).answer ≡ Some (p, k) →
       ((bus_taken i d).pairs ≡ p ∷ (bus_taken i (next_byte_of d).dma).pairs) ×
       ((bus_taken i d).causes ≡ k ∷ (bus_taken i (next_byte_of d).dma).causes) ×
       ((bus_taken i d).dma ≡ (bus_taken i (next_byte_of d).dma).dma) ×

@@ -5,13 +5,13 @@ use mathlib.Core.Path.{◌≡◌, refl, sym, ap, subst, ◌∙◌}
 use mathlib.Core.Bool.{false}
 use mathlib.Core.List.{List, [], ◌∷◌}
 use lib.ListN.{length}
+use Rattle.std.specs.Prelude.{Some}
 use Rattle.console.specs.declared.vram_dma.VramDma.{VramDma}
 use Rattle.transfer.specs.CauseSteps.{Caused}
 use Rattle.transfer.specs.Pair.{next_byte_of}
 use Rattle.transfer.specs.declared.pair.BytePair.{BytePair}
 use Rattle.transfer.specs.declared.pair.Cause.{Cause}
 use Rattle.transfer.specs.declared.pair.Cause.TheVariants.{GoingOn}
-use Rattle.transfer.specs.declared.pair.NextAnswer.TheVariants.{Pair}
 use Rattle.transfer.proofs.CauseSteps.{cause_steps}
 use Rattle.transfer.proofs.PairSteps.{pair_steps, some_left, is_ready}
 use Rattle.bus.specs.Commit.{Taken, nothing, cell_taken, pairs_of, bus_taken}
@@ -49,7 +49,7 @@ without d t none no_pairs same =
     }
 
 -- a pair, then those of the engine after it
-module _ (d : VramDma) (p : BytePair) (k : Cause) (t : Taken) (came : (next_byte_of d).answer ≡ Pair p k) (rest : CausesOf (next_byte_of d).dma t) where
+module _ (d : VramDma) (p : BytePair) (k : Cause) (t : Taken) (came : (next_byte_of d).answer ≡ Some (p, k)) (rest : CausesOf (next_byte_of d).dma t) where
   first_of_more : (j : Cause) (more : List Cause) → t.causes ≡ j ∷ more → k ≡ GoingOn
   first_of_more j more e = (cause_steps.pair d p k came).going_on.1 (rest.some j more e)
 

@@ -4,13 +4,12 @@ use native.Mathlib.Omega.{arith}
 use mathlib.Core.Path.{◌≡◌, refl, ap, ◌∙◌}
 use mathlib.Core.Bool.{Bool, true, false, cond}
 use mathlib.Core.List.{◌∷◌}
+use Rattle.std.specs.Prelude.{Some, None}
 use Rattle.countdown.specs.declared.Countdown.{Countdown}
 use Rattle.console.specs.declared.vram_dma.VramDma.{VramDma}
-use Rattle.transfer.specs.Pair.{next_byte_of}
+use Rattle.transfer.specs.Pair.{NextAnswer, next_byte_of}
 use Rattle.transfer.specs.declared.pair.BytePair.{BytePair}
 use Rattle.transfer.specs.declared.pair.Cause.{Cause}
-use Rattle.transfer.specs.declared.pair.NextAnswer.{NextAnswer}
-use Rattle.transfer.specs.declared.pair.NextAnswer.TheVariants.{Pair, None}
 use Rattle.transfer.specs.declared.pair.NextByte.{NextByte}
 use Rattle.transfer.proofs.PairSteps.{pair_steps, is_ready}
 use Rattle.bus.specs.Commit.{Taken, nothing, after_answer, taken_of, pairs_of, holds_bus, setup_stands, with_cells, cell_taken, bus_taken}
@@ -52,12 +51,12 @@ unfolding pairs_of
 pairs_none d h = taken_none d.cursor.quota d h
 
 -- a pair takes one from quota
-pub quota_falls : (d : VramDma) (p : BytePair) (k : Cause) → (next_byte_of d).answer ≡ Pair p k → d.cursor.quota ≡ suc (next_byte_of d).dma.cursor.quota
+pub quota_falls : (d : VramDma) (p : BytePair) (k : Cause) → (next_byte_of d).answer ≡ Some (p, k) → d.cursor.quota ≡ suc (next_byte_of d).dma.cursor.quota
 quota_falls d p k h = let fell = (pair_steps.moves d (is_ready d p k h)).quota in omega (arith, fell)
 
 -- a pair comes first, then what the engine gives after it
 pub pairs_one :
-    (d : VramDma) (p : BytePair) (k : Cause) → (next_byte_of d).answer ≡ Pair p k →
+    (d : VramDma) (p : BytePair) (k : Cause) → (next_byte_of d).answer ≡ Some (p, k) →
     (let rest = pairs_of (next_byte_of d).dma in
     pairs_of d ≡ record { dma = rest.dma; pairs = p ∷ rest.pairs; causes = k ∷ rest.causes; setup = false })
 unfolding pairs_of taken_of
@@ -68,7 +67,7 @@ pairs_one d p k h =
 -- what holds of an engine where none comes, and holds of d if it holds of the engine after its first pair, holds of d
 pub by_pairs :
     (P : VramDma → Taken → Type 0) → ((d : VramDma) → (next_byte_of d).answer ≡ None → P d (nothing d)) →
-    ((d : VramDma) (p : BytePair) (k : Cause) (t : Taken) → (next_byte_of d).answer ≡ Pair p k → P (next_byte_of d).dma t →
+    ((d : VramDma) (p : BytePair) (k : Cause) (t : Taken) → (next_byte_of d).answer ≡ Some (p, k) → P (next_byte_of d).dma t →
     P d (record { dma = t.dma; pairs = p ∷ t.pairs; causes = k ∷ t.causes; setup = false })) →
     (d : VramDma) → P d (pairs_of d)
 unfolding pairs_of taken_of
@@ -82,7 +81,7 @@ by_pairs P none one d = taken d.cursor.quota d refl
             (a : NextAnswer) → (next_byte_of d).answer ≡ a →
             ((next_byte_of d).dma.cursor.quota ≡ n → P (next_byte_of d).dma (taken_of n (next_byte_of d).dma)) →
             P d (after_answer d a (taken_of n (next_byte_of d).dma))
-        step (Pair p k) e rest = one d p k _ e (rest (let fell = quota_falls d p k e in omega arith))
+        step (Some (p, k)) e rest = one d p k _ e (rest (let fell = quota_falls d p k e in omega arith))
         step None e rest = none d e
 
 -- a property of engines that each pair keeps, and each set-up cell, is kept by the call

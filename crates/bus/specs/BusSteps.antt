@@ -1,5 +1,5 @@
 -- What is shown of the bus call, in document 01's words (section 3).
-use Rattle.std.specs.Prelude.{◌+◌, ◌-◌, ◌%◌, ◌<◌, min, ◌≡◌, true, false, [], ◌∷◌, ◌↔◌, length}
+use Rattle.std.specs.Prelude.{◌+◌, ◌-◌, ◌%◌, ◌<◌, min, ◌≡◌, true, false, [], ◌∷◌, ◌↔◌, length, Some, None}
 use Rattle.countdown.specs.Countdown.{remaining_of, stepped}
 use Rattle.console.specs.declared.vram_dma.TransferMode.TheVariants.{General}
 use Rattle.console.specs.declared.vram_dma.VramDma.{VramDma}
@@ -10,7 +10,6 @@ use Rattle.transfer.specs.PairsLeft.{pairs_left, movable}
 use Rattle.transfer.specs.declared.pair.BytePair.{BytePair}
 use Rattle.transfer.specs.declared.pair.Cause.{Cause}
 use Rattle.transfer.specs.declared.pair.Cause.TheVariants.{GoingOn}
-use Rattle.transfer.specs.declared.pair.NextAnswer.TheVariants.{Pair, None}
 use Rattle.bus.specs.Commit.{Taken, nothing, holds_bus, setup_stands, with_cells, bus_taken}
 use Rattle.bus.specs.declared.commit.BusInput.{BusInput}
 
@@ -38,7 +37,7 @@ pub record BusSteps (i : BusInput) (d : VramDma) : Type 0 where
   -- and at the end there is none
   pub none : holds_bus i ≡ true → setup_stands d ≡ false → (next_byte_of d).answer ≡ None → bus_taken i d ≡ nothing d
   pub one :
-      (p : BytePair) (k : Cause) → holds_bus i ≡ true → setup_stands d ≡ false → (next_byte_of d).answer ≡ Pair p k →
+      (p : BytePair) (k : Cause) → holds_bus i ≡ true → setup_stands d ≡ false → (next_byte_of d).answer ≡ Some (p, k) →
       ((bus_taken i d).pairs ≡ p ∷ (bus_taken i (next_byte_of d).dma).pairs) ×
       ((bus_taken i d).causes ≡ k ∷ (bus_taken i (next_byte_of d).dma).causes) ×
       ((bus_taken i d).dma ≡ (bus_taken i (next_byte_of d).dma).dma) ×

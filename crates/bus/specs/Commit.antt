@@ -1,17 +1,14 @@
 -- The bus call (document 01, section 3; vram_dma.rs, `vram_dma_commit_bytes`). What moves and what the engine is after it
 -- look at no memory; bytes, VRAM and OAM have definitions of their own.
-use Rattle.std.specs.Prelude.{ℕ, zero, suc, ◌≡◌, Bool, true, false, cond, ◌||◌, List, [], ◌∷◌, length}
+use Rattle.std.specs.Prelude.{ℕ, zero, suc, ◌≡◌, Bool, true, false, cond, ◌||◌, List, [], ◌∷◌, length, Some, None}
 use Rattle.countdown.specs.Countdown.{active_of, ticked}
 use Rattle.countdown.specs.declared.Countdown.{Countdown}
 use Rattle.console.specs.Set.{with_block_setup_cells, with_dma_block}
 use Rattle.console.specs.declared.vram_dma.VramDma.{VramDma}
-use Rattle.transfer.specs.Pair.{next_byte_of}
+use Rattle.transfer.specs.Pair.{NextAnswer, next_byte_of}
 use Rattle.transfer.specs.declared.pair.BytePair.{BytePair}
 use Rattle.transfer.specs.declared.pair.Cause.{Cause}
 use Rattle.transfer.specs.declared.pair.Cause.TheVariants.{GoingOn}
-use Rattle.transfer.specs.declared.pair.Causes.{Causes}
-use Rattle.transfer.specs.declared.pair.NextAnswer.{NextAnswer}
-use Rattle.transfer.specs.declared.pair.NextAnswer.TheVariants.{Pair, None}
 use Rattle.bus.specs.Source.{hdma_byte}
 use Rattle.bus.specs.Store.{vram_with}
 use Rattle.bus.specs.Deposit.{phase_of, no_pair, deposited}
@@ -32,7 +29,7 @@ nothing d = record { dma = d; pairs = []; causes = []; setup = false }
 
 -- "a pair is moved, anything else ends the call"
 abbrev pub after_answer : VramDma → NextAnswer → Taken → Taken
-after_answer d (Pair p k) rest = record { dma = rest.dma; pairs = p ∷ rest.pairs; causes = k ∷ rest.causes; setup = false }
+after_answer d (Some (p, k)) rest = record { dma = rest.dma; pairs = p ∷ rest.pairs; causes = k ∷ rest.causes; setup = false }
 after_answer d None rest = nothing d
 
 -- at most n pairs
@@ -80,24 +77,14 @@ first_two none [] = none ∷ none ∷ []
 first_two none (a ∷ []) = a ∷ none ∷ []
 first_two none (a ∷ b ∷ more) = a ∷ b ∷ []
 
--- a call without a pair has no cause; its places are going on
-abbrev pub no_causes : Causes
-no_causes = record { first = GoingOn; second = GoingOn }
-
--- the same two places for the causes
-abbrev pub first_causes : List Cause → Causes
-first_causes [] = no_causes
-first_causes (a ∷ []) = record { first = a; second = GoingOn }
-first_causes (a ∷ b ∷ more) = record { first = a; second = b }
-
--- what a call of these pairs gives
+-- what a call of these pairs gives; a spare cause is going on
 unfoldable pub run_of : Banks → List ℕ → List ℕ → Taken → Run
 run_of banks cartridge wram t =
     record {
       dma = t.dma;
       count = length t.pairs;
       pairs = first_two no_pair t.pairs;
-      causes = first_causes t.causes;
+      causes = first_two GoingOn t.causes;
       bytes = first_two 0 (bytes_of banks cartridge wram t.pairs);
       setup_cell = t.setup;
     }
@@ -117,20 +104,22 @@ unfoldable pub loop_of : Banks → List ℕ → List ℕ → VramDma → List �
 loop_of banks cartridge wram d vram =
     record { run = run_of banks cartridge wram (pairs_of d); vram = vram_after banks cartridge wram (pairs_of d).pairs vram }
 
-abbrev pub rest_run : VramDma → Run
-rest_run d =
-    record { dma = d; count = 0; pairs = no_pair ∷ no_pair ∷ []; causes = no_causes; bytes = 0 ∷ 0 ∷ []; setup_cell = false }
-
-abbrev pub setup_run : Countdown → VramDma → Run
-setup_run cells d =
+abbrev pub idle_run : Bool → VramDma → Run
+idle_run setup d =
     record {
-      dma = with_cells cells d;
+      dma = d;
       count = 0;
       pairs = no_pair ∷ no_pair ∷ [];
-      causes = no_causes;
+      causes = GoingOn ∷ GoingOn ∷ [];
       bytes = 0 ∷ 0 ∷ [];
-      setup_cell = true;
+      setup_cell = setup;
     }
+
+abbrev pub rest_run : VramDma → Run
+rest_run d = idle_run false d
+
+abbrev pub setup_run : Countdown → VramDma → Run
+setup_run cells d = idle_run true (with_cells cells d)
 
 -- the whole outcome of a bus call
 pub record Committed (banks : Banks) (i : BusInput) (d : VramDma) (cartridge wram vram oam : List ℕ) (r : Run) (last_vram last_oam : List ℕ) : Type 0 where

@@ -20,6 +20,7 @@ pub enum Arbitration {
     Stall,
 }
 
+// Both parts always stand, so no Option.
 #[derive(Clone, Copy)]
 pub struct Arbitrated {
     pub answer: Arbitration,

@@ -1,6 +1,6 @@
 // What a bus call is given and what it gives (vram_dma.rs, `vram_dma_commit_bytes`).
 use console::vram_dma::VramDma;
-use transfer::pair::{BytePair, Causes};
+use transfer::pair::{BytePair, Cause};
 
 // What a bus call is given.
 #[derive(Clone, Copy)]
@@ -19,13 +19,14 @@ pub struct Banks {
     pub vram: u8,
 }
 
-// The pairs of a call, how many there were, their causes and their bytes; the engine after them.
+// The pairs of a call, how many there were, their causes and their bytes; the engine after them. A count beside arrays, and no list:
+// document 01 gives a bus call's answer so.
 #[derive(Clone, Copy)]
 pub struct Run {
     pub dma: VramDma,
     pub count: u8,
     pub pairs: [BytePair; 2],
-    pub causes: Causes,
+    pub causes: [Cause; 2],
     pub bytes: [u8; 2],
     // The call went to a set-up cell.
     pub setup_cell: bool,

@@ -2,46 +2,23 @@
 #![tactic(auto)]
 
 ghost use Rattle.std.specs.Prelude.{◌≡◌};
-ghost use Rattle.bus.specs.Commit.{rest_run, setup_run, Committed};
+ghost use Rattle.bus.specs.Commit.{idle_run, Committed};
 
 use bus::commit::{Banks, BusInput, Run};
-use console::vram_dma::VramDma;
-use countdown::Countdown;
-use transfer::pair::{BytePair, Cause, Causes};
+use console::vram_dma::{HblankBlock, VramDma};
+use transfer::pair::{BytePair, Cause};
 
-// A call that moves nothing.
-fn rest(d: VramDma) -> Run
-    ensures { result ≡ rest_run d }
+// A call that moves no pair, with the engine after it; `setup_cell`: a set-up cell used it up.
+fn idle(dma: VramDma, setup_cell: bool) -> Run
+    ensures { result ≡ idle_run setup_cell dma }
 {
     Run {
-        dma: d,
+        dma,
         count: 0,
         pairs: [BytePair { source: 0, dest: 0 }; 2],
-        causes: Causes {
-            first: Cause::GoingOn,
-            second: Cause::GoingOn,
-        },
-        bytes: [0u8; 2],
-        setup_cell: false,
-    }
-}
-
-// A call that goes to a set-up cell; `cells` is what is left of them.
-fn setup(d: VramDma, cells: Countdown) -> Run
-    ensures { result ≡ setup_run cells d }
-{
-    let mut dma = d;
-    dma.block.setup_cells.0 = cells.0;
-    Run {
-        dma: dma,
-        count: 0,
-        pairs: [BytePair { source: 0, dest: 0 }; 2],
-        causes: Causes {
-            first: Cause::GoingOn,
-            second: Cause::GoingOn,
-        },
-        bytes: [0u8; 2],
-        setup_cell: true,
+        causes: [Cause::GoingOn; 2],
+        bytes: [0; 2],
+        setup_cell,
     }
 }
 
@@ -59,17 +36,18 @@ pub fn commit_bytes(
 {
     let released = !(i.hold | i.suspended);
     if released {
-        return rest(d);
+        return idle(d, false);
     }
     let cell = d.block.setup_cells.tick();
     if cell.flag {
-        let left = cell.next;
-        return setup(d, left);
+        let block = HblankBlock {
+            setup_cells: cell.next,
+            ..d.block
+        };
+        return idle(VramDma { block, ..d }, true);
     }
     let run = bus_pairs::move_pairs(d, banks, cartridge, wram, vram);
-    let pairs = run.pairs;
-    let bytes = run.bytes;
     let phase = oam_deposit::phase(d.block.start_edge, i.oam_start_edge);
-    oam_deposit::deposit(oam, d.oam.contended, run.count, pairs, bytes, phase);
+    oam_deposit::deposit(oam, d.oam.contended, run.count, run.pairs, run.bytes, phase);
     run
 }

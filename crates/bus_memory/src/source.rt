@@ -12,22 +12,14 @@ pub fn read_source(video: u8, cartridge: &[u8], wram: &[u8], svbk: u8, address: 
     ensures { result ≡ source_byte video cartridge.now wram.now svbk address }
 {
     let at = address as usize;
-    if at < 0x8000 {
-        return byte_at(cartridge, at);
+    match address {
+        0x0000..=0x7FFF => byte_at(cartridge, at),
+        0x8000..=0x9FFF => video,
+        0xA000..=0xBFFF => byte_at(cartridge, at - 0x2000),
+        0xC000..=0xCFFF => byte_at(wram, at - 0xC000),
+        0xD000..=0xDFFF => byte_at(wram, memory::wram::banked(svbk, address - 0xD000)),
+        0xE000.. => 0xFF,
     }
-    if at < 0xA000 {
-        return video;
-    }
-    if at < 0xC000 {
-        return byte_at(cartridge, at - 0x2000);
-    }
-    if at < 0xD000 {
-        return byte_at(wram, at - 0xC000);
-    }
-    if at < 0xE000 {
-        return byte_at(wram, memory::wram::banked(svbk, address - 0xD000));
-    }
-    0xFF
 }
 
 // VRAM does not answer its own DMA.
@@ -47,7 +39,7 @@ pub fn read_object_source(
 ) -> u8
     ensures { result ≡ object_byte banks cartridge.now wram.now vram.now address }
 {
-    let within = arithmetic::step::saturating_sub16(address, 0x8000);
+    let within = address.saturating_sub(0x8000);
     let video = byte_at(vram, (banks.vram as usize) * 8192 + (within as usize));
     read_source(video, cartridge, wram, banks.svbk, address)
 }

@@ -8,7 +8,7 @@ use memory::put_at;
 pub fn commit_vram(vram: &mut [u8], bank: u8, address: u16, byte: u8)
     ensures { vram.new ≡ vram_with vram.old bank address byte }
 {
-    let within = arithmetic::step::saturating_sub16(address, 0x8000);
+    let within = address.saturating_sub(0x8000);
     put_at(vram, (bank as usize) * 8192 + (within as usize), byte);
 }
 
@@ -20,6 +20,6 @@ pub fn commit_oam(oam: &mut [u8], address: u16, byte: u8)
     if address > 0xFE9F {
         return;
     }
-    let within = arithmetic::step::saturating_sub16(address, 0xFE00);
+    let within = address.saturating_sub(0xFE00);
     put_at(oam, within as usize, byte);
 }

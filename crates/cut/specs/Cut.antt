@@ -1,5 +1,5 @@
 -- The cut (document 01, section 4; speed_switch.rs, `attempt_speed_switch`): what a switch makes of the engine.
-use Rattle.std.specs.Prelude.{ℕ, ◌-◌, Bool, true, false, cond, not, ◌&&◌, ltb}
+use Rattle.std.specs.Prelude.{◌-◌, Bool, true, false, cond, not, ◌&&◌, ltb}
 use Rattle.countdown.specs.Countdown.{armed, cleared, active_of}
 use Rattle.console.specs.Set.{with_cursor_mode, with_cursor_escape_byte, with_block_remaining, with_block_ready_in, with_block_setup_cells, with_arb_pend}
 use Rattle.console.specs.Set.{with_arb_granted_ahead, with_arb_grant_counted, with_arb_wake_pend_blind, with_dma_cursor, with_dma_block, with_dma_arb}

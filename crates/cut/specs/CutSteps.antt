@@ -1,5 +1,5 @@
 -- What is shown of the cut, in document 01's words (section 4).
-use Rattle.std.specs.Prelude.{ℕ, ◌-◌, ◌<◌, ◌≡◌, true, false, ◌↔◌}
+use Rattle.std.specs.Prelude.{◌-◌, ◌<◌, ◌≡◌, true, false, ◌↔◌}
 use Rattle.countdown.specs.Countdown.{armed, cleared}
 use Rattle.console.specs.Set.{with_cursor_mode, with_cursor_escape_byte, with_block_remaining, with_block_ready_in, with_block_setup_cells, with_arb_pend}
 use Rattle.console.specs.Set.{with_arb_granted_ahead, with_arb_grant_counted, with_arb_wake_pend_blind}

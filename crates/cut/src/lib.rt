@@ -5,10 +5,10 @@
 ghost use Rattle.std.specs.Prelude.{◌≡◌};
 ghost use Rattle.cut.specs.Cut.{ready_block, outcome_of, ungranted, cut_of, discarded_of, graded_of, upward_of, engine_after};
 
-use arithmetic::step::less_one;
-use console::vram_dma::{TransferMode, VramDma};
+use arithmetic::pick::pick;
+use console::vram_dma::{HaltArbiter, HblankBlock, TransferCursor, TransferMode, VramDma};
 
-// What became of a latched block.
+// What became of a latched block: the paper's three answers, of which none is one, so no Option of the other two.
 #[derive(Clone, Copy)]
 pub enum SwitchOutcome {
     None,
@@ -21,72 +21,80 @@ pub enum SwitchOutcome {
 pub fn ready_block(d: VramDma) -> bool
     ensures { result ≡ ready_block d }
 {
-    let waiting = d.block.ready_in.active();
-    (d.block.remaining > 0) & !waiting
+    (d.block.remaining > 0) & !d.block.ready_in.active()
 }
 
 #[tactic(auto, unfolding(crate::specs::Cut::outcome_of))]
 pub fn outcome(d: VramDma, up: bool) -> SwitchOutcome
     ensures { result ≡ outcome_of up d }
 {
-    let latched = up & (d.block.remaining > 0);
-    if latched {
-        if ready_block(d) {
-            return SwitchOutcome::Cut;
-        }
-        return SwitchOutcome::Discarded;
+    if !up | (d.block.remaining == 0) {
+        return SwitchOutcome::None;
     }
-    SwitchOutcome::None
+    pick(ready_block(d), SwitchOutcome::Cut, SwitchOutcome::Discarded)
 }
 
 // Either way the block's FF55 count is revoked.
 #[tactic(auto, unfolding(crate::specs::Cut::ungranted))]
-fn ungrant(mut d: VramDma) -> VramDma
+fn ungrant(d: VramDma) -> VramDma
     ensures { result ≡ ungranted d }
 {
-    let granted = less_one(d.arb.granted_ahead);
-    d.arb.granted_ahead = granted;
-    d.arb.grant_counted = false;
-    d
+    VramDma {
+        arb: HaltArbiter {
+            granted_ahead: d.arb.granted_ahead.saturating_sub(1),
+            grant_counted: false,
+            ..d.arb
+        },
+        ..d
+    }
 }
 
 // A ready block is cut: the byte in flight completes outside the length.
 #[tactic(auto, unfolding(crate::specs::Cut::cut_of))]
-fn cut(mut d: VramDma) -> VramDma
+fn cut(d: VramDma) -> VramDma
     ensures { result ≡ cut_of d }
 {
-    let c = d.cursor;
-    let idle = rebuild::with_cursor_mode(c, TransferMode::Idle);
-    let cursor = rebuild::with_cursor_escape_byte(idle, true);
-    d.cursor = cursor;
-    d.block.remaining = 1;
-    d
+    VramDma {
+        cursor: TransferCursor {
+            mode: TransferMode::Idle,
+            escape_byte: true,
+            ..d.cursor
+        },
+        block: HblankBlock {
+            remaining: 1,
+            ..d.block
+        },
+        ..d
+    }
 }
 
 #[tactic(auto, unfolding(crate::specs::Cut::discarded_of))]
-fn discard(mut d: VramDma) -> VramDma
+fn discard(d: VramDma) -> VramDma
     ensures { result ≡ discarded_of d }
 {
-    let ready = d.block.ready_in.clear();
-    let setup = d.block.setup_cells.clear();
-    d.block.remaining = 0;
-    d.block.ready_in.0 = ready.0;
-    d.block.setup_cells.0 = setup.0;
-    d
+    VramDma {
+        block: HblankBlock {
+            remaining: 0,
+            ready_in: d.block.ready_in.clear(),
+            setup_cells: d.block.setup_cells.clear(),
+            ..d.block
+        },
+        ..d
+    }
 }
 
 #[tactic(auto, unfolding(crate::specs::Cut::graded_of))]
 fn grade(d: VramDma) -> VramDma
     ensures { result ≡ graded_of d }
 {
-    let latched = d.block.remaining > 0;
-    if latched {
-        if ready_block(d) {
-            return cut(ungrant(d));
-        }
-        return discard(ungrant(d));
+    if d.block.remaining == 0 {
+        return d;
     }
-    d
+    if ready_block(d) {
+        cut(ungrant(d))
+    } else {
+        discard(ungrant(d))
+    }
 }
 
 // Upward: the block is graded, the pend drops and the blind of 6 is armed.
@@ -94,11 +102,15 @@ fn grade(d: VramDma) -> VramDma
 fn upward(d: VramDma) -> VramDma
     ensures { result ≡ upward_of d }
 {
-    let mut graded = grade(d);
-    let blind = graded.arb.wake_pend_blind.arm(6);
-    graded.arb.pend = false;
-    graded.arb.wake_pend_blind.0 = blind.0;
-    graded
+    let graded = grade(d);
+    VramDma {
+        arb: HaltArbiter {
+            pend: false,
+            wake_pend_blind: graded.arb.wake_pend_blind.arm(6),
+            ..graded.arb
+        },
+        ..graded
+    }
 }
 
 #[tactic(auto, unfolding(crate::specs::Cut::engine_after))]

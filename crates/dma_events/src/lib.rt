@@ -5,17 +5,18 @@
 ghost use Rattle.std.specs.Prelude.{◌≡◌};
 ghost use Rattle.transfer.specs.Latch.{latched_block, latched_of, unclaimed, latches_dark, lcd_disabled_of, retired_of};
 
-use console::vram_dma::{HblankBlock, VramDma};
+use console::vram_dma::{HblankBlock, TransferMode, VramDma};
 
 #[tactic(auto, unfolding(transfer::specs::Latch::latched_block))]
 fn latched_block(b: HblankBlock) -> HblankBlock
     ensures { result ≡ latched_block b }
 {
-    let setup = b.setup_cells.clear();
-    let ready = b.ready_in.arm(2);
-    let unset = rebuild::with_block_setup_cells(b, setup);
-    let waiting = rebuild::with_block_ready_in(unset, ready);
-    rebuild::with_block_remaining(waiting, 16)
+    HblankBlock {
+        remaining: 16,
+        setup_cells: b.setup_cells.clear(),
+        ready_in: b.ready_in.arm(2),
+        ..b
+    }
 }
 
 // With the LCD off no HBlank will come, so one block is served at once.
@@ -23,9 +24,7 @@ fn latched_block(b: HblankBlock) -> HblankBlock
 pub fn latch_block(mut d: VramDma) -> VramDma
     ensures { result ≡ latched_of d }
 {
-    let block = d.block;
-    let latched = latched_block(block);
-    d.block = latched;
+    d.block = latched_block(d.block);
     d.arb.pend_from_arm = true;
     d
 }
@@ -42,10 +41,10 @@ fn drop_idle_claim(mut d: VramDma) -> VramDma
 fn latches_dark(d: VramDma) -> bool
     ensures { result ≡ latches_dark d }
 {
-    let c = d.cursor;
-    let mode = c.mode;
-    let armed = mode.is_hblank();
-    armed & (c.remaining > 0) & !d.block.taken & (d.block.remaining == 0)
+    (d.cursor.mode == TransferMode::HBlank)
+        & (d.cursor.remaining > 0)
+        & !d.block.taken
+        & (d.block.remaining == 0)
 }
 
 // The LCD goes off: the idle claim drops, and an armed transfer that waits is served one block.

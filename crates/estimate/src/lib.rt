@@ -6,14 +6,13 @@ ghost use Rattle.std.specs.Prelude.{◌≡◌};
 ghost use Rattle.estimate.specs.Estimate.{estimate_of, transfer_time_of};
 ghost use Rattle.estimate.specs.Counted.{Counted};
 
-use arithmetic::pick::pick16;
-use arithmetic::step::wide;
+use arithmetic::pick::pick;
 
 // M-cycles, from the value for FF55.
 pub fn estimate(value: u8) -> u16
     ensures { result ≡ estimate_of value }
 {
-    (wide(value % 128) + 1) * 8
+    (u16::from(value % 128) + 1) * 8
 }
 
 #[derive(Clone, Copy)]
@@ -26,13 +25,9 @@ pub struct TransferTime {
 fn bytes(value: u8, destination: u16) -> u16
     ensures { Counted value destination result }
 {
-    let length = (wide(value % 128) + 1) * 16;
-    let room = 65536 - destination as u32;
-    if (length as u32) < room {
-        length
-    } else {
-        room as u16
-    }
+    let length = (u32::from(value % 128) + 1) * 16;
+    let room = 65536 - u32::from(destination);
+    length.min(room) as u16
 }
 
 // From the value for FF55, of which bit 7 counts for nothing, and the destination register as it stands in
@@ -41,9 +36,9 @@ fn bytes(value: u8, destination: u16) -> u16
 pub fn transfer_time(value: u8, destination: u16, double_speed: bool) -> TransferTime
     ensures { result ≡ transfer_time_of value destination double_speed }
 {
-    let count = bytes(value, destination);
+    let bytes = bytes(value, destination);
     TransferTime {
-        bytes: count,
-        m_cycles: pick16(double_speed, count, (count + 1) / 2),
+        bytes,
+        m_cycles: pick(double_speed, bytes, bytes.div_ceil(2)),
     }
 }

@@ -2,11 +2,11 @@
 #![tactic(auto)]
 
 ghost use Rattle.std.specs.Prelude.{◌≡◌};
-ghost use Rattle.fall_stages.specs.Fall.{still_of, settled_of, ran_of, fall_of};
+ghost use Rattle.fall_stages.specs.Fall.{still_of, settled_of, no_claim, fell, ran_of, fall_of};
 ghost use Rattle.fall_stages.specs.QuietFall.{quiet_of};
 
 use console::VramDmaClaim;
-use console::vram_dma::VramDma;
+use console::vram_dma::{TransferCursor, TransferMode, VramDma};
 use fall_stages::View;
 pub use fall_stages::{FallInput, Fallen};
 
@@ -14,9 +14,7 @@ pub use fall_stages::{FallInput, Fallen};
 fn still(d: VramDma) -> bool
     ensures { result ≡ still_of d }
 {
-    let block = hblank_block::still(d.block);
-    let arb = halt_arbiter::still(d.arb);
-    block & arb
+    hblank_block::still(d.block) & halt_arbiter::still(d.arb)
 }
 
 // The fall comes to `settle_inert`: where the engine is inert, and also while bytes are left, with none
@@ -24,26 +22,38 @@ fn still(d: VramDma) -> bool
 fn quiet(d: VramDma, input: FallInput) -> bool
     ensures { result ≡ quiet_of input d }
 {
-    let c = d.cursor;
-    let mode = c.mode;
-    let general = mode.is_general();
-    let armed = mode.is_hblank();
-    let wants = general | (armed & (input.mode == 0) & !d.block.taken);
-    let still = still(d);
-    ((c.remaining == 0) | !wants) & still & !input.halted & !input.stopped
+    let wants = match d.cursor.mode {
+        TransferMode::Idle => false,
+        TransferMode::General => true,
+        TransferMode::HBlank => (input.mode == 0) & !d.block.taken,
+    };
+    ((d.cursor.remaining == 0) | !wants) & still(d) & !input.halted & !input.stopped
 }
 
 #[tactic(auto, unfolding(fall_stages::specs::Fall::settled_of))]
 fn settle_inert(d: VramDma, in_hblank: bool) -> VramDma
     ensures { result ≡ settled_of in_hblank d }
 {
-    let block = hblank_block::settle(d.block, in_hblank);
-    let arb = halt_arbiter::settle(d.arb, in_hblank);
-    let cursor = rebuild::with_cursor_quota(d.cursor, 0);
-    rebuild::with_dma_cursor(
-        rebuild::with_dma_block(rebuild::with_dma_arb(d, arb), block),
-        cursor,
-    )
+    VramDma {
+        cursor: TransferCursor {
+            quota: 0,
+            ..d.cursor
+        },
+        block: hblank_block::settle(d.block, in_hblank),
+        arb: halt_arbiter::settle(d.arb, in_hblank),
+        ..d
+    }
+}
+
+// A fall that commits nothing.
+fn fell(dma: VramDma) -> Fallen
+    ensures { result ≡ fell no_claim dma }
+{
+    Fallen {
+        refused: false,
+        claim: VramDmaClaim::default(),
+        dma,
+    }
 }
 
 #[tactic(auto, unfolding(fall_stages::specs::Fall::ran_of))]
@@ -52,35 +62,22 @@ fn run(d: VramDma, v: View, gated: bool) -> Fallen
 {
     let started = halt_gate::start(d, v);
     if gated {
-        let dma = halt_gate::gate(started, v);
-        return Fallen {
-            refused: false,
-            claim: VramDmaClaim {
-                committed: false,
-                standing: false,
-            },
-            dma: dma,
-        };
+        fell(halt_gate::gate(started, v))
+    } else {
+        block_service::decide(d, block_service::step_blinds(started, v), v)
     }
-    block_service::decide(d, block_service::step_blinds(started, v), v)
 }
 
+#[tactic(auto, using(fall_stages::proofs::QuietFall::quiet_fall, fall_stages::proofs::QuietFall::loud_fall))]
 pub fn fall_edge(d: VramDma, double_speed: bool, input: FallInput) -> Fallen
     ensures { result ≡ fall_of input double_speed d }
 {
-    let quiet = quiet(d, input);
-    if quiet {
-        let dma = settle_inert(d, input.mode == 0);
-        return Fallen {
-            refused: false,
-            claim: VramDmaClaim {
-                committed: false,
-                standing: false,
-            },
-            dma: dma,
-        };
+    if quiet(d, input) {
+        return fell(settle_inert(d, input.mode == 0));
     }
-    let v = halt_gate::view(input, d, double_speed);
-    let gated = halt_gate::gates(input);
-    run(d, v, gated)
+    run(
+        d,
+        halt_gate::view(input, d, double_speed),
+        halt_gate::gates(input),
+    )
 }

@@ -6,13 +6,13 @@ ghost use Rattle.fall_stages.specs.Fall.{still_arb, settled_arb, halted_falls_of
 ghost use Rattle.fall_stages.specs.Fall.{aged_arb, pended_arb, grants, granted_arb, blinded, blinds_arb, drives, tenure_if, commit_arb};
 ghost use Rattle.fall_stages.specs.Fall.{consumes, tenure_arb, pend_arb};
 
-use arithmetic::step::{less_one_if, saturating_inc, saturating_inc_if, wide};
+use arithmetic::pick::pick;
 use console::vram_dma::HaltArbiter;
 use countdown::Countdown;
 use fall_stages::View;
 
 // The arbiter after its blinds or its tenure ticked. Passed over: an entry fell into one of them, and this HBlank is
-// taken without service.
+// taken without service. Both parts always stand, so no Option.
 #[derive(Clone, Copy)]
 pub struct ArbTicked {
     pub arb: HaltArbiter,
@@ -34,32 +34,36 @@ pub fn still(a: HaltArbiter) -> bool
 pub fn settle(a: HaltArbiter, in_hblank: bool) -> HaltArbiter
     ensures { result ≡ settled_arb in_hblank a }
 {
-    let running = rebuild::with_arb_halted_falls(a, 0);
-    rebuild::with_arb_prev_view_hblank(running, in_hblank)
+    HaltArbiter {
+        halted_falls: 0,
+        prev_view_hblank: in_hblank,
+        ..a
+    }
 }
 
 fn halted_falls(halted: bool, n: u8) -> u8
     ensures { result ≡ halted_falls_of halted n }
 {
-    if halted { saturating_inc(n) } else { 0 }
+    pick(halted, n.saturating_add(1), 0)
 }
 
 // A wake blinds the entries of the next falls.
 fn wake_blind(woke: bool, blind: Countdown) -> Countdown
     ensures { result ≡ wake_blind_of woke blind }
 {
-    if woke { blind.arm(3) } else { blind }
+    pick(woke, blind.arm(3), blind)
 }
 
 #[tactic(auto, unfolding(fall_stages::specs::Fall::observed_arb))]
 pub fn observe(a: HaltArbiter, v: View) -> HaltArbiter
     ensures { result ≡ observed_arb v a }
 {
-    let falls = halted_falls(v.cpu_halted, a.halted_falls);
-    let blind = wake_blind(v.was_halted & !v.cpu_halted, a.halt_wake_blind);
-    let woken = rebuild::with_arb_halt_wake_blind(a, blind);
-    let counted = rebuild::with_arb_halted_falls(woken, falls);
-    rebuild::with_arb_prev_view_hblank(counted, v.in_hblank)
+    HaltArbiter {
+        halted_falls: halted_falls(v.cpu_halted, a.halted_falls),
+        prev_view_hblank: v.in_hblank,
+        halt_wake_blind: wake_blind(v.was_halted & !v.cpu_halted, a.halt_wake_blind),
+        ..a
+    }
 }
 
 // A reverted launch is not granted after all.
@@ -67,8 +71,10 @@ pub fn observe(a: HaltArbiter, v: View) -> HaltArbiter
 pub fn ungrant(a: HaltArbiter, back: bool) -> HaltArbiter
     ensures { result ≡ ungranted_arb back a }
 {
-    let granted = less_one_if(back, a.granted_ahead);
-    rebuild::with_arb_granted_ahead(a, granted)
+    HaltArbiter {
+        granted_ahead: pick(back, a.granted_ahead.saturating_sub(1), a.granted_ahead),
+        ..a
+    }
 }
 
 #[tactic(auto, unfolding(fall_stages::specs::Fall::halt_latch_arb))]
@@ -76,13 +82,19 @@ pub fn join_halt(a: HaltArbiter, halted: bool, joins: bool) -> HaltArbiter
     ensures { result ≡ halt_latch_arb halted joins a }
 {
     if joins {
-        let noted = rebuild::with_arb_prev_cpu_halted(a, halted);
-        let young = rebuild::with_arb_pend_age(noted, 0);
-        let counted = rebuild::with_arb_grant_counted(young, true);
-        let granted = rebuild::with_arb_pend_granted(counted, true);
-        return rebuild::with_arb_pend(granted, true);
+        return HaltArbiter {
+            pend: true,
+            pend_age: 0,
+            pend_granted: true,
+            grant_counted: true,
+            prev_cpu_halted: halted,
+            ..a
+        };
     }
-    rebuild::with_arb_prev_cpu_halted(a, halted)
+    HaltArbiter {
+        prev_cpu_halted: halted,
+        ..a
+    }
 }
 
 // A standing pend ages in the halt.
@@ -90,8 +102,10 @@ pub fn join_halt(a: HaltArbiter, halted: bool, joins: bool) -> HaltArbiter
 fn age(a: HaltArbiter) -> HaltArbiter
     ensures { result ≡ aged_arb a }
 {
-    let age = saturating_inc_if(a.pend, a.pend_age);
-    rebuild::with_arb_pend_age(a, age)
+    HaltArbiter {
+        pend_age: pick(a.pend, a.pend_age.saturating_add(1), a.pend_age),
+        ..a
+    }
 }
 
 #[tactic(auto, unfolding(fall_stages::specs::Fall::pended_arb))]
@@ -99,9 +113,12 @@ fn pend_if(a: HaltArbiter, pends: bool) -> HaltArbiter
     ensures { result ≡ pended_arb pends a }
 {
     if pends {
-        let young = rebuild::with_arb_pend_age(a, 0);
-        let shown = rebuild::with_arb_pend_from_arm(young, false);
-        return rebuild::with_arb_pend(shown, true);
+        return HaltArbiter {
+            pend: true,
+            pend_from_arm: false,
+            pend_age: 0,
+            ..a
+        };
     }
     a
 }
@@ -110,18 +127,23 @@ fn pend_if(a: HaltArbiter, pends: bool) -> HaltArbiter
 fn grants(a: HaltArbiter, v: View, blocks: u16) -> bool
     ensures { result ≡ grants v blocks a }
 {
-    let granted = wide(a.granted_ahead);
-    v.cpu_halted & v.entry_edge & v.armed & (a.halted_falls <= 2) & (blocks > granted)
+    v.cpu_halted
+        & v.entry_edge
+        & v.armed
+        & (a.halted_falls <= 2)
+        & (blocks > u16::from(a.granted_ahead))
 }
 
 #[tactic(auto, unfolding(fall_stages::specs::Fall::granted_arb))]
 fn grant_if(a: HaltArbiter, grants: bool) -> HaltArbiter
     ensures { result ≡ granted_arb grants a }
 {
-    let granted = saturating_inc_if(grants, a.granted_ahead);
-    let pend = rebuild::with_arb_pend_granted(a, a.pend_granted | grants);
-    let counted = rebuild::with_arb_grant_counted(pend, a.grant_counted | grants);
-    rebuild::with_arb_granted_ahead(counted, granted)
+    HaltArbiter {
+        pend_granted: a.pend_granted | grants,
+        grant_counted: a.grant_counted | grants,
+        granted_ahead: pick(grants, a.granted_ahead.saturating_add(1), a.granted_ahead),
+        ..a
+    }
 }
 
 // Gated: age, pend at an entry, grant at an entry.
@@ -140,10 +162,12 @@ pub fn step_blinds(a: HaltArbiter, v: View) -> ArbTicked
     let halt = a.halt_wake_blind.tick();
     let first = a.wake_pend_blind.remaining() == 6;
     let wake = a.wake_pend_blind.tick();
-    let one = rebuild::with_arb_wake_pend_blind(a, wake.next);
-    let both = rebuild::with_arb_halt_wake_blind(one, halt.next);
     ArbTicked {
-        arb: both,
+        arb: HaltArbiter {
+            halt_wake_blind: halt.next,
+            wake_pend_blind: wake.next,
+            ..a
+        },
         passed_over: (halt.flag & v.entry_edge) | (wake.flag & v.entry_edge & !first),
     }
 }
@@ -158,7 +182,7 @@ fn drives(a: HaltArbiter, v: View) -> bool
 fn tenure_if(driven: bool, tenure: Countdown) -> Countdown
     ensures { result ≡ tenure_if driven tenure }
 {
-    if driven { tenure.arm(36) } else { tenure }
+    pick(driven, tenure.arm(36), tenure)
 }
 
 #[tactic(auto, unfolding(fall_stages::specs::Fall::commit_arb))]
@@ -166,18 +190,24 @@ pub fn commit(a: HaltArbiter, v: View, committing: bool) -> HaltArbiter
     ensures { result ≡ commit_arb committing v a }
 {
     if committing {
-        let granted = saturating_inc_if(!a.grant_counted, a.granted_ahead);
-        let driven = drives(a, v);
-        let tenure = tenure_if(driven, a.wake_tenure);
-        let park = !(a.pend_from_arm | (v.cpu_halted | v.was_halted));
-        let served = rebuild::with_arb_pend_granted(a, false);
-        let held = rebuild::with_arb_wake_tenure(served, tenure);
-        let uncounted = rebuild::with_arb_grant_counted(held, false);
-        let ahead = rebuild::with_arb_granted_ahead(uncounted, granted);
-        let parked = rebuild::with_arb_park_waits_for_fetch(ahead, park);
-        return rebuild::with_arb_idle_claim(parked, false);
+        return HaltArbiter {
+            pend_granted: false,
+            wake_tenure: tenure_if(drives(a, v), a.wake_tenure),
+            park_waits_for_fetch: !(a.pend_from_arm | (v.cpu_halted | v.was_halted)),
+            idle_claim: false,
+            grant_counted: false,
+            granted_ahead: pick(
+                a.grant_counted,
+                a.granted_ahead,
+                a.granted_ahead.saturating_add(1),
+            ),
+            ..a
+        };
     }
-    rebuild::with_arb_pend_granted(a, a.pend_granted & v.cpu_halted)
+    HaltArbiter {
+        pend_granted: a.pend_granted & v.cpu_halted,
+        ..a
+    }
 }
 
 // The tenure ticks; an entry that it passes over claims where bytes are left.
@@ -187,10 +217,12 @@ pub fn step_tenure(a: HaltArbiter, v: View, bytes_left: bool) -> ArbTicked
 {
     let tenure = a.wake_tenure.tick();
     let consumes = tenure.flag & v.entry_edge;
-    let claimed = rebuild::with_arb_idle_claim(a, a.idle_claim | (consumes & bytes_left));
-    let ticked = rebuild::with_arb_wake_tenure(claimed, tenure.next);
     ArbTicked {
-        arb: ticked,
+        arb: HaltArbiter {
+            wake_tenure: tenure.next,
+            idle_claim: a.idle_claim | (consumes & bytes_left),
+            ..a
+        },
         passed_over: consumes,
     }
 }
@@ -200,11 +232,17 @@ pub fn renew_pend(a: HaltArbiter, pends: bool) -> HaltArbiter
     ensures { result ≡ pend_arb pends a }
 {
     if pends {
-        let used = rebuild::with_arb_armed_this_fall(a, false);
-        let young = rebuild::with_arb_pend_age(used, 0);
-        let sourced = rebuild::with_arb_pend_from_arm(young, a.armed_this_fall);
-        return rebuild::with_arb_pend(sourced, true);
+        return HaltArbiter {
+            pend: true,
+            pend_from_arm: a.armed_this_fall,
+            armed_this_fall: false,
+            pend_age: 0,
+            ..a
+        };
     }
-    let used = rebuild::with_arb_armed_this_fall(a, false);
-    rebuild::with_arb_pend(used, false)
+    HaltArbiter {
+        pend: false,
+        armed_this_fall: false,
+        ..a
+    }
 }

@@ -5,7 +5,7 @@
 ghost use Rattle.std.specs.Prelude.{◌≡◌};
 ghost use Rattle.fall_stages.specs.Fall.{gates, view_of, observed_of, probation_of, halt_latch_of, started_of, refilled_of, gated_of};
 
-use console::vram_dma::VramDma;
+use console::vram_dma::{TransferCursor, TransferMode, VramDma};
 use fall_stages::{FallInput, View};
 
 // Document 01's "gated": stopped, or halted without a latched IRQ.
@@ -19,17 +19,14 @@ pub fn gates(i: FallInput) -> bool
 pub fn view(i: FallInput, d: VramDma, double_speed: bool) -> View
     ensures { result ≡ view_of i double_speed d }
 {
-    let c = d.cursor;
-    let mode = c.mode;
-    let armed = mode.is_hblank();
     let in_hblank = i.mode == 0;
     View {
-        in_hblank: in_hblank,
+        in_hblank,
         entry_edge: in_hblank & !d.arb.prev_view_hblank,
         cpu_halted: i.halted,
         was_halted: d.arb.prev_cpu_halted,
-        armed: armed,
-        double_speed: double_speed,
+        armed: d.cursor.mode == TransferMode::HBlank,
+        double_speed,
         master_edge: i.master_edge,
         oam_owns_bus: i.oam_owns_bus,
     }
@@ -43,7 +40,7 @@ fn observe(d: VramDma, v: View) -> VramDma
     let arb = halt_arbiter::observe(d.arb, v);
     let clear = hblank_block::taken_clears(v, arb.halted_falls);
     let block = hblank_block::keep_taken(d.block, clear);
-    rebuild::with_dma_block(rebuild::with_dma_arb(d, arb), block)
+    VramDma { block, arb, ..d }
 }
 
 // A launch that readied outside mode 0 reverts.
@@ -54,7 +51,7 @@ fn judge_probation(d: VramDma, v: View) -> VramDma
     let back = hblank_block::reverts(d.block, v);
     let block = hblank_block::judge(d.block, back);
     let arb = halt_arbiter::ungrant(d.arb, back);
-    rebuild::with_dma_block(rebuild::with_dma_arb(d, arb), block)
+    VramDma { block, arb, ..d }
 }
 
 // A block not yet ready at the halt latch becomes a granted pend.
@@ -65,7 +62,7 @@ fn join_halt(d: VramDma, v: View) -> VramDma
     let joins = hblank_block::joins_halt(d.block, v);
     let block = hblank_block::drop_if(d.block, joins);
     let arb = halt_arbiter::join_halt(d.arb, v.cpu_halted, joins);
-    rebuild::with_dma_block(rebuild::with_dma_arb(d, arb), block)
+    VramDma { block, arb, ..d }
 }
 
 // Steps 3 and 4: what is done gated or not.
@@ -81,8 +78,11 @@ pub fn refill(d: VramDma, double_speed: bool) -> VramDma
     ensures { result ≡ refilled_of double_speed d }
 {
     let moving = next_pair::moving(d);
-    let quota = next_pair::quota(moving, double_speed);
-    rebuild::with_dma_cursor(d, rebuild::with_cursor_quota(d.cursor, quota))
+    let cursor = TransferCursor {
+        quota: next_pair::quota(moving, double_speed),
+        ..d.cursor
+    };
+    VramDma { cursor, ..d }
 }
 
 // Step 5: a pend ages, and an entry in the halt pends or grants.
@@ -92,5 +92,5 @@ pub fn gate(d: VramDma, v: View) -> VramDma
 {
     let pends = v.cpu_halted & v.entry_edge & v.armed & !d.block.taken & (d.cursor.remaining > 0);
     let arb = halt_arbiter::in_halt(d.arb, v, pends, d.cursor.remaining / 16);
-    refill(rebuild::with_dma_arb(d, arb), v.double_speed)
+    refill(VramDma { arb, ..d }, v.double_speed)
 }

@@ -5,8 +5,7 @@ ghost use Rattle.std.specs.Prelude.{◌≡◌};
 ghost use Rattle.fall_stages.specs.Fall.{still_block, settled_block, taken_clears, kept_taken, reverts, judged_block, joins_halt, dropped_block};
 ghost use Rattle.fall_stages.specs.Fall.{taken_if, precharged, armed_unless, commit_block, readied_block, seizure_count, seized_block};
 
-use arithmetic::pick::pick8;
-use arithmetic::step::saturating_inc;
+use arithmetic::pick::pick;
 use console::vram_dma::{HaltArbiter, HblankBlock};
 use countdown::Countdown;
 use fall_stages::View;
@@ -20,22 +19,27 @@ pub fn still(b: HblankBlock) -> bool
 pub fn settle(b: HblankBlock, in_hblank: bool) -> HblankBlock
     ensures { result ≡ settled_block in_hblank b }
 {
-    let idle = rebuild::with_block_seize_falls(b, 0);
-    rebuild::with_block_taken(idle, b.taken & in_hblank)
+    HblankBlock {
+        taken: b.taken & in_hblank,
+        seize_falls: 0,
+        ..b
+    }
 }
 
 // Outside mode 0, running or within the M-cycle of the halt latch.
 pub fn taken_clears(v: View, halted_falls: u8) -> bool
     ensures { result ≡ taken_clears v halted_falls }
 {
-    let window = pick8(v.double_speed, 2, 4);
-    !v.in_hblank & (!v.cpu_halted | (halted_falls <= window))
+    !v.in_hblank & (!v.cpu_halted | (halted_falls <= pick(v.double_speed, 2, 4)))
 }
 
 pub fn keep_taken(b: HblankBlock, clear: bool) -> HblankBlock
     ensures { result ≡ kept_taken clear b }
 {
-    rebuild::with_block_taken(b, b.taken & !clear)
+    HblankBlock {
+        taken: b.taken & !clear,
+        ..b
+    }
 }
 
 pub fn reverts(b: HblankBlock, v: View) -> bool
@@ -48,10 +52,12 @@ pub fn reverts(b: HblankBlock, v: View) -> bool
 pub fn judge(b: HblankBlock, back: bool) -> HblankBlock
     ensures { result ≡ judged_block back b }
 {
-    let remaining = pick8(back, 0, b.remaining);
-    let judged = rebuild::with_block_arm_ready_probation(b, false);
-    let marked = rebuild::with_block_from_arm(judged, b.from_arm & !back);
-    rebuild::with_block_remaining(marked, remaining)
+    HblankBlock {
+        remaining: pick(back, 0, b.remaining),
+        from_arm: b.from_arm & !back,
+        arm_ready_probation: false,
+        ..b
+    }
 }
 
 pub fn joins_halt(b: HblankBlock, v: View) -> bool
@@ -65,11 +71,12 @@ pub fn drop_if(b: HblankBlock, joins: bool) -> HblankBlock
     ensures { result ≡ dropped_block joins b }
 {
     if joins {
-        let ready = b.ready_in.clear();
-        let setup = b.setup_cells.clear();
-        let uncharged = rebuild::with_block_setup_cells(b, setup);
-        let unready = rebuild::with_block_ready_in(uncharged, ready);
-        return rebuild::with_block_remaining(unready, 0);
+        return HblankBlock {
+            remaining: 0,
+            setup_cells: b.setup_cells.clear(),
+            ready_in: b.ready_in.clear(),
+            ..b
+        };
     }
     b
 }
@@ -77,7 +84,10 @@ pub fn drop_if(b: HblankBlock, joins: bool) -> HblankBlock
 pub fn take_if(b: HblankBlock, takes: bool) -> HblankBlock
     ensures { result ≡ taken_if takes b }
 {
-    rebuild::with_block_taken(b, b.taken | takes)
+    HblankBlock {
+        taken: b.taken | takes,
+        ..b
+    }
 }
 
 // The grant charged the set-up during the halt.
@@ -90,8 +100,7 @@ fn precharged(a: HaltArbiter, v: View) -> bool
 fn armed_unless(none: bool, ticks: u8) -> Countdown
     ensures { result ≡ armed_unless none ticks }
 {
-    let n = pick8(none, 0, ticks);
-    Countdown(0).arm(n)
+    Countdown(0).arm(pick(none, 0, ticks))
 }
 
 #[tactic(auto, unfolding(fall_stages::specs::Fall::commit_block))]
@@ -100,14 +109,15 @@ pub fn commit(b: HblankBlock, v: View, a: HaltArbiter, committing: bool) -> Hbla
 {
     if committing {
         let charged = precharged(a, v);
-        let ready = armed_unless(charged, 2);
-        let setup = armed_unless(a.pend_from_arm | charged, 1);
-        let marked = rebuild::with_block_from_arm(b, a.pend_from_arm);
-        let waiting = rebuild::with_block_ready_in(marked, ready);
-        let charging = rebuild::with_block_setup_cells(waiting, setup);
-        let taken = rebuild::with_block_taken(charging, true);
-        let begun = rebuild::with_block_start_edge(taken, v.master_edge);
-        return rebuild::with_block_remaining(begun, 16);
+        return HblankBlock {
+            remaining: 16,
+            start_edge: v.master_edge,
+            taken: true,
+            setup_cells: armed_unless(a.pend_from_arm | charged, 1),
+            ready_in: armed_unless(charged, 2),
+            from_arm: a.pend_from_arm,
+            ..b
+        };
     }
     b
 }
@@ -118,20 +128,25 @@ pub fn step_readiness(b: HblankBlock, double_speed: bool) -> HblankBlock
 {
     let ready = b.ready_in.expired();
     let probation = ready.flag & b.from_arm & (b.remaining == 16) & !double_speed;
-    let judged = rebuild::with_block_arm_ready_probation(b, b.arm_ready_probation | probation);
-    rebuild::with_block_ready_in(judged, ready.next)
+    HblankBlock {
+        ready_in: ready.next,
+        arm_ready_probation: b.arm_ready_probation | probation,
+        ..b
+    }
 }
 
 fn seizure_count(seizes: bool, n: u8) -> u8
     ensures { result ≡ seizure_count seizes n }
 {
-    if seizes { saturating_inc(n) } else { 0 }
+    pick(seizes, n.saturating_add(1), 0)
 }
 
 #[tactic(auto, unfolding(fall_stages::specs::Fall::seized_block))]
 pub fn count_seizure(b: HblankBlock, seizes: bool) -> HblankBlock
     ensures { result ≡ seized_block seizes b }
 {
-    let n = seizure_count(seizes, b.seize_falls);
-    rebuild::with_block_seize_falls(b, n)
+    HblankBlock {
+        seize_falls: seizure_count(seizes, b.seize_falls),
+        ..b
+    }
 }

@@ -1,9 +1,9 @@
 // FF55: the status that it reads, and the three things that a write to it can do.
 ghost use Rattle.std.specs.Prelude.{◌≡◌};
 ghost use Rattle.hdma.specs.Hdma5.{status_byte, grants_cleared, paced, armed_of, cancelled_of, general_started, hdma5_written};
+ghost use Rattle.console.specs.Set.{with_dma_cursor};
 
-use arithmetic::pick::pick8;
-use arithmetic::step::{saturating_sub16, wide};
+use arithmetic::pick::pick;
 use console::vram_dma::{HaltArbiter, TransferCursor, TransferMode, VramDma};
 
 // From bit 7 down: the active bit, 0 while armed with a block to show; then the remaining length, 127 where no block shows.
@@ -11,85 +11,88 @@ use console::vram_dma::{HaltArbiter, TransferCursor, TransferMode, VramDma};
 pub fn status_byte(d: VramDma) -> u8
     ensures { result ≡ status_byte d }
 {
-    let c = d.cursor;
-    let mode = c.mode;
-    let visible = saturating_sub16(c.remaining / 16, wide(d.arb.granted_ahead));
-    let active = mode.is_hblank() & (visible > 0);
-    let active_bit = pick8(active, 0, 128);
+    let visible = (d.cursor.remaining / 16).saturating_sub(u16::from(d.arb.granted_ahead));
+    let active = (d.cursor.mode == TransferMode::HBlank) & (visible > 0);
+    let active_bit = pick(active, 0, 128);
     let remaining_length = ((visible % 128 + 127) % 128) as u8;
     active_bit + remaining_length
 }
 
 // Blocks granted and pends granted are counted from the write on.
-fn clear_grant_marks(mut a: HaltArbiter) -> HaltArbiter
+fn clear_grant_marks(a: HaltArbiter) -> HaltArbiter
     ensures { result ≡ grants_cleared a }
 {
-    a.granted_ahead = 0;
-    a.grant_counted = false;
-    a.pend_granted = false;
-    a
+    HaltArbiter {
+        granted_ahead: 0,
+        grant_counted: false,
+        pend_granted: false,
+        ..a
+    }
 }
 
-fn pace(c: TransferCursor, mode: TransferMode, length: u16) -> TransferCursor
-    ensures { result ≡ paced mode length c }
+fn pace(d: VramDma, mode: TransferMode, length: u16) -> VramDma
+    ensures { result ≡ with_dma_cursor (paced mode length d.cursor) d }
 {
-    let paced = rebuild::with_cursor_mode(c, mode);
-    rebuild::with_cursor_remaining(paced, length)
+    VramDma {
+        cursor: TransferCursor {
+            mode,
+            remaining: length,
+            ..d.cursor
+        },
+        ..d
+    }
 }
 
 // Bit 7 set: a block with each HBlank. With the LCD off none will come, and one block is latched now.
 #[tactic(auto, unfolding(crate::specs::Hdma5::armed_of))]
-fn arm(mut d: VramDma, length: u16, lcd_on: bool) -> VramDma
+fn arm(d: VramDma, length: u16, lcd_on: bool) -> VramDma
     ensures { result ≡ armed_of length lcd_on d }
 {
-    let c = d.cursor;
-    let cursor = pace(c, TransferMode::HBlank, length);
-    d.cursor = cursor;
-    d.arb.armed_this_fall = true;
+    let paced = pace(d, TransferMode::HBlank, length);
+    let armed = VramDma {
+        arb: HaltArbiter {
+            armed_this_fall: true,
+            ..paced.arb
+        },
+        ..paced
+    };
     if lcd_on {
-        return d;
+        armed
+    } else {
+        dma_events::latch_block(armed)
     }
-    dma_events::latch_block(d)
 }
 
 // Bit 7 clear while armed: only the arming ends. A latched block stays.
 #[tactic(auto, unfolding(crate::specs::Hdma5::cancelled_of))]
-fn cancel(mut d: VramDma, length: u16) -> VramDma
+fn cancel(d: VramDma, length: u16) -> VramDma
     ensures { result ≡ cancelled_of length d }
 {
-    let c = d.cursor;
-    let cursor = pace(c, TransferMode::Idle, length);
-    d.cursor = cursor;
-    d
+    pace(d, TransferMode::Idle, length)
 }
 
 // Bit 7 clear otherwise: the whole length at once.
 #[tactic(auto, unfolding(crate::specs::Hdma5::general_started))]
-fn start_general(mut d: VramDma, length: u16) -> VramDma
+fn start_general(d: VramDma, length: u16) -> VramDma
     ensures { result ≡ general_started length d }
 {
-    let c = d.cursor;
-    let cursor = pace(c, TransferMode::General, length);
-    d.cursor = cursor;
-    d
+    pace(d, TransferMode::General, length)
 }
 
 #[tactic(auto, unfolding(crate::specs::Hdma5::hdma5_written))]
-pub fn write_hdma5(mut d: VramDma, value: u8, lcd_on: bool) -> VramDma
+pub fn write_hdma5(d: VramDma, value: u8, lcd_on: bool) -> VramDma
     ensures { result ≡ hdma5_written value lcd_on d }
 {
-    let length = (wide(value % 128) + 1) * 16;
-    let c = d.cursor;
-    let mode = c.mode;
-    let armed = mode.is_hblank();
-    let a = d.arb;
-    let arb = clear_grant_marks(a);
-    d.arb = arb;
+    let length = (u16::from(value % 128) + 1) * 16;
+    let cleared = VramDma {
+        arb: clear_grant_marks(d.arb),
+        ..d
+    };
     if value >= 128 {
-        return arm(d, length, lcd_on);
+        arm(cleared, length, lcd_on)
+    } else if d.cursor.mode == TransferMode::HBlank {
+        cancel(cleared, length)
+    } else {
+        start_general(cleared, length)
     }
-    if armed {
-        return cancel(d, length);
-    }
-    start_general(d, length)
 }

@@ -1,4 +1,4 @@
-pub mod Key1
 pub mod Mapped
 pub mod Ram
 pub mod ReadSteps
+pub mod Key1

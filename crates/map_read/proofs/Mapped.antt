@@ -1,28 +1,27 @@
 -- What a read of the map tells of the address: what the calls above cite. Assumes nothing.
 use Prim.Native.Nat.{ℕ}
-use native.Mathlib.Omega.{arith}
 use mathlib.Core.Path.{◌≡◌, refl}
 use mathlib.Core.Bool.{Bool, true, false, cond}
 use mathlib.Core.List.{List}
+use Rattle.std.proofs.Common.{Some, None}
 use Rattle.console.specs.declared.Cgb.{Cgb}
 use Rattle.registers.specs.Map.{place_of, readable}
 use Rattle.map_read.specs.Read.{map_byte, map_read_of}
-use Rattle.map_read.specs.declared.MapRead.TheVariants.{Byte, Unmapped}
 
-none : (mapped : Bool) (x : ℕ) → cond mapped (Byte x) Unmapped ≡ Unmapped → mapped ≡ false
+none : (mapped : Bool) (x : ℕ) → cond mapped (Some x) None ≡ None → mapped ≡ false
 none false x e = refl
-none true x e = let z : ◌≡◌ {A = ℕ} 0 1 = cc in absurd (omega arith)
+none true x e = cc
 
-some : (mapped : Bool) (x b : ℕ) → cond mapped (Byte x) Unmapped ≡ Byte b → (mapped ≡ true) × (x ≡ b)
+some : (mapped : Bool) (x b : ℕ) → cond mapped (Some x) None ≡ Some b → (mapped ≡ true) × (x ≡ b)
 some true x b e = (refl, cc)
-some false x b e = let z : ◌≡◌ {A = ℕ} 0 1 = cc in absurd (omega arith)
+some false x b e = cc
 
-pub unmapped_read : (s : Cgb) (wram : List ℕ) (a : ℕ) → map_read_of s wram a ≡ Unmapped → readable (place_of a) ≡ false
+pub unmapped_read : (s : Cgb) (wram : List ℕ) (a : ℕ) → map_read_of s wram a ≡ None → readable (place_of a) ≡ false
 unfolding map_read_of
 unmapped_read s wram a e = none (readable (place_of a)) (map_byte s wram (place_of a)) e
 
 pub mapped_read :
-    (s : Cgb) (wram : List ℕ) (a b : ℕ) → map_read_of s wram a ≡ Byte b →
+    (s : Cgb) (wram : List ℕ) (a b : ℕ) → map_read_of s wram a ≡ Some b →
     (readable (place_of a) ≡ true) × (map_byte s wram (place_of a) ≡ b)
 unfolding map_read_of
 mapped_read s wram a b e = some (readable (place_of a)) (map_byte s wram (place_of a)) b e

@@ -5,6 +5,7 @@ use mathlib.Core.Path.{◌≡◌, refl, sym, subst}
 use mathlib.Core.Bool.{true, false}
 use mathlib.Core.List.{List}
 use mathlib.Core.Logic.{inl, inr}
+use Rattle.std.proofs.Common.{Some}
 use Rattle.console.specs.Set.{with_dmg_compat}
 use Rattle.console.specs.declared.Cgb.{Cgb}
 use Rattle.table.specs.Table.{◌▸◌}
@@ -14,7 +15,6 @@ use Rattle.registers.proofs.Places.{at_place, at_oam}
 use Rattle.registers.proofs.MapSteps.{not_read}
 use Rattle.map_read.specs.Read.{map_byte, map_read_of}
 use Rattle.map_read.specs.ReadSteps.{LocksRead, MapReads, RegisterReads, CompatReads, ReadSteps}
-use Rattle.map_read.specs.declared.MapRead.TheVariants.{Byte}
 use Rattle.map_read.proofs.Ram.{ram_read}
 
 pub map_reads : (s : Cgb) (wram : List ℕ) (a : ℕ) → MapReads s wram a
@@ -50,7 +50,7 @@ register_reads s wram free =
 module _ (s : Cgb) (wram : List ℕ) where
   -- a read of an address that is locked gives FF
   abbrev Full : ℕ → Type 0
-  Full a = map_read_of (with_dmg_compat true s) wram a ≡ Byte 0xFF
+  Full a = map_read_of (with_dmg_compat true s) wram a ≡ Some 0xFF
 
   locked : (a : ℕ) → LocksRead a → Full a
   unfolding map_read_of place_of

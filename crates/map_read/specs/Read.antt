@@ -1,13 +1,11 @@
 -- Reads (document 01, section 1): what stands at each place of the map.
-use Rattle.std.specs.Prelude.{ℕ, ◌+◌, ◌*◌, ◌/◌, ◌%◌, Bool, cond, List, [], get_or}
+use Rattle.std.specs.Prelude.{ℕ, ◌+◌, ◌*◌, ◌/◌, ◌%◌, Bool, cond, List, Option, Some, None, [], get_or}
 use Rattle.console.specs.declared.Cgb.{Cgb}
 use Rattle.hdma.specs.Hdma5.{status_byte}
 use Rattle.memory.specs.Wram.{banked_index}
 use Rattle.registers.specs.Map.{Register, KEY0, KEY1, VBK, HDMA1, HDMA2, HDMA3, HDMA4, HDMA5, SVBK, FF72, FF73, FF74, FF75, Place, work_ram, banked_ram}
 use Rattle.registers.specs.Map.{extra_oam, register, dma_start, unmapped, place_of, readable}
 use Rattle.registers.specs.Ram.{in_ram}
-use Rattle.map_read.specs.declared.MapRead.{MapRead}
-use Rattle.map_read.specs.declared.MapRead.TheVariants.{Byte, Unmapped}
 
 -- "FF4D reads 7Eh + 128 × speed + armed"
 abbrev pub key1_byte : Bool → Bool → ℕ
@@ -43,9 +41,9 @@ map_byte s wram (register r) = register_byte s r
 map_byte s wram dma_start = 0
 map_byte s wram unmapped = 0
 
-unfoldable pub map_read_of : Cgb → List ℕ → ℕ → MapRead
-map_read_of s wram a = cond (readable (place_of a)) (Byte (map_byte s wram (place_of a))) Unmapped
+unfoldable pub map_read_of : Cgb → List ℕ → ℕ → Option ℕ
+map_read_of s wram a = cond (readable (place_of a)) (Some (map_byte s wram (place_of a))) None
 
 -- what a read gives where work RAM does not answer
-unfoldable pub register_read_of : Cgb → ℕ → MapRead
-register_read_of s a = cond (in_ram (place_of a)) Unmapped (map_read_of s [] a)
+unfoldable pub register_read_of : Cgb → ℕ → Option ℕ
+register_read_of s a = cond (in_ram (place_of a)) None (map_read_of s [] a)

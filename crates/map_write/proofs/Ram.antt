@@ -1,20 +1,16 @@
 -- A write lands in work RAM where work RAM answers, and is what the registers make of it elsewhere. Assumes nothing.
-use Prim.Native.Nat.{ℕ, ◌<◌}
-use native.Mathlib.Omega.{arith}
+use Prim.Native.Nat.{ℕ}
 use mathlib.Core.Path.{◌≡◌, refl}
 use mathlib.Core.Bool.{Bool, true, false, cond, ◌&&◌, true≢false, false≢true}
 use mathlib.Core.List.{List}
 use lib.ListN.{set}
+use Rattle.std.proofs.Common.{Some, None}
 use Rattle.console.specs.declared.Cgb.{Cgb}
 use Rattle.memory.specs.Wram.{banked_index}
-use Rattle.table.specs.Table.{NoneOf, keys_of}
-use Rattle.registers.specs.Map.{Place, work_ram, banked_ram, extra_oam, register, dma_start, unmapped, registers, place_of, writable, locks, locks_at}
+use Rattle.registers.specs.Map.{Place, work_ram, banked_ram, extra_oam, register, dma_start, unmapped, place_of, writable, locks, locks_at}
 use Rattle.registers.specs.Ram.{in_ram, index_at, wram_index_of}
-use Rattle.registers.specs.declared.WramIndex.TheVariants.{At, Elsewhere}
-use Rattle.registers.proofs.Places.{at_place, no_register, not_writable}
 use Rattle.registers.proofs.Ram.{at_index, not_here, not_in_ram}
-use Rattle.map_write.specs.Write.{state_at, wram_at, stored_of, locked, map_write_of, wram_after, register_stored_of, register_write_of}
-use Rattle.map_write.specs.declared.MapWritten.{MapWritten}
+use Rattle.map_write.specs.Write.{MapWritten, state_at, wram_at, stored_of, locked, map_write_of, wram_after, register_stored_of, register_write_of}
 use Rattle.map_write.specs.declared.WriteInput.{WriteInput}
 
 -- a write that was taken and changed nothing, and one that was not taken
@@ -30,7 +26,7 @@ module _ (s : Cgb) (w : WriteInput) where
   abbrev stored_at : Place → MapWritten
   stored_at p = record { mapped = writable p; state = state_at s w p }
 
-  in_ram_lem : (p : Place) (i : ℕ) → index_at s.svbk p ≡ At i → (stored_at p ≡ kept true s) × (writable p ≡ true)
+  in_ram_lem : (p : Place) (i : ℕ) → index_at s.svbk p ≡ Some i → (stored_at p ≡ kept true s) × (writable p ≡ true)
   in_ram_lem (work_ram j) i e = (refl, refl)
   in_ram_lem (banked_ram j) i e = (refl, refl)
   in_ram_lem (extra_oam j) i e = absurd (not_here i e)
@@ -39,12 +35,12 @@ module _ (s : Cgb) (w : WriteInput) where
   in_ram_lem unmapped i e = absurd (not_here i e)
 
   -- work RAM is in the map, and no write to it changes the state
-  pub ram_state : (a i : ℕ) → wram_index_of s.svbk a ≡ At i → map_write_of s w a ≡ record { mapped = true; state = s }
+  pub ram_state : (a i : ℕ) → wram_index_of s.svbk a ≡ Some i → map_write_of s w a ≡ record { mapped = true; state = s }
   unfolding map_write_of stored_of wram_index_of
   ram_state a i e =
       rw ((in_ram_lem (place_of a) i e).0, (in_ram_lem (place_of a) i e).1) (either (locked s a) (kept true s))
 
-  pub beyond_ram : (a : ℕ) → wram_index_of s.svbk a ≡ Elsewhere → register_write_of s w a ≡ map_write_of s w a
+  pub beyond_ram : (a : ℕ) → wram_index_of s.svbk a ≡ None → register_write_of s w a ≡ map_write_of s w a
   unfolding register_write_of
   beyond_ram a e = rw (not_in_ram s.svbk a e)
 
@@ -60,21 +56,6 @@ module _ (s : Cgb) (w : WriteInput) where
   pub off_map : (a : ℕ) → writable (place_of a) ≡ false → stored_of s w a ≡ record { mapped = false; state = s }
   unfolding stored_of
   off_map a e = not_taken (place_of a) e
-
-  -- below FEA0 only work RAM answers
-  pub under_oam : (a : ℕ) → a < 0xFEA0 → register_stored_of s w a ≡ record { mapped = false; state = s }
-  unfolding register_stored_of stored_of
-  under_oam a h =
-      at_place (λ p. cond (in_ram p) (kept false s) (stored_at p) ≡ kept false s) a
-      (λ p q. refl) (λ p q. refl) (λ p q. refl) (λ p q. refl)
-      (λ p q. absurd (omega arith))
-      (rw (no_register a (omega arith)))
-
-  -- from FF00 up only the registers that are written answer
-  pub no_register_write :
-      (a : ℕ) → 0xFEFF < a → NoneOf a (keys_of writable registers) → register_stored_of s w a ≡ record { mapped = false; state = s }
-  unfolding register_stored_of
-  no_register_write a p n = rw (off_map a (not_writable a p n)) (either (in_ram (place_of a)) (kept false s))
 
   pub lock_apart : (p : Place) → locks p ≡ true → (in_ram p ≡ false) × (writable p ≡ true)
   lock_apart (work_ram i) h = absurd (false≢true h)
@@ -100,7 +81,7 @@ module _ (s : Cgb) (w : WriteInput) where
   lock_free a h = rw h
 
 module _ (s : Cgb) (wram : List ℕ) (v : ℕ) where
-  into_ram : (p : Place) (i : ℕ) → index_at s.svbk p ≡ At i → wram_at s wram v p ≡ set wram i v
+  into_ram : (p : Place) (i : ℕ) → index_at s.svbk p ≡ Some i → wram_at s wram v p ≡ set wram i v
   into_ram (work_ram j) i e = rw (at_index j i e)
   into_ram (banked_ram j) i e = rw (at_index (banked_index s.svbk j) i e)
   into_ram (extra_oam j) i e = absurd (not_here i e)
@@ -108,7 +89,7 @@ module _ (s : Cgb) (wram : List ℕ) (v : ℕ) where
   into_ram dma_start i e = absurd (not_here i e)
   into_ram unmapped i e = absurd (not_here i e)
 
-  pub ram_written : (a i : ℕ) → wram_index_of s.svbk a ≡ At i → wram_after s wram v a ≡ set wram i v
+  pub ram_written : (a i : ℕ) → wram_index_of s.svbk a ≡ Some i → wram_after s wram v a ≡ set wram i v
   unfolding wram_after wram_index_of
   ram_written a i e = into_ram (place_of a) i e
 
@@ -120,6 +101,6 @@ module _ (s : Cgb) (wram : List ℕ) (v : ℕ) where
   past_ram dma_start e = refl
   past_ram unmapped e = refl
 
-  pub ram_kept : (a : ℕ) → wram_index_of s.svbk a ≡ Elsewhere → wram_after s wram v a ≡ wram
+  pub ram_kept : (a : ℕ) → wram_index_of s.svbk a ≡ None → wram_after s wram v a ≡ wram
   unfolding wram_after
   ram_kept a e = past_ram (place_of a) (not_in_ram s.svbk a e)

@@ -1,5 +1,5 @@
 -- Writes (document 01, section 1): what a write to each place leaves.
-use Rattle.std.specs.Prelude.{ℕ, ◌*◌, ◌/◌, ◌%◌, ◌≡◌, Bool, false, cond, ◌&&◌, List, eqb, set}
+use Rattle.std.specs.Prelude.{ℕ, ◌*◌, ◌/◌, ◌%◌, Bool, false, cond, ◌&&◌, List, Option, Some, None, eqb, set}
 use Rattle.console.specs.Set.{with_cursor_source, with_cursor_dest, with_dma_cursor, with_vram_dma, with_svbk, with_key1_armed, with_vram, with_vram_selected}
 use Rattle.console.specs.Set.{with_ff_72, with_ff_73, with_ff_74, with_ff_75, with_extra_oam, with_object_dma}
 use Rattle.console.specs.declared.Cgb.{Cgb}
@@ -10,7 +10,6 @@ use Rattle.object_dma.specs.ObjectDma.{started}
 use Rattle.registers.specs.Map.{Register, KEY0, KEY1, VBK, HDMA1, HDMA2, HDMA3, HDMA4, HDMA5, SVBK, FF72, FF73, FF74, FF75, Place, work_ram, banked_ram}
 use Rattle.registers.specs.Map.{extra_oam, register, dma_start, unmapped, place_of, writable, locks_at}
 use Rattle.registers.specs.Ram.{in_ram}
-use Rattle.map_write.specs.declared.MapWritten.{MapWritten}
 use Rattle.map_write.specs.declared.WriteInput.{WriteInput}
 
 abbrev pub with_source : ℕ → Cgb → Cgb
@@ -53,6 +52,15 @@ wram_at s wram v (register r) = wram
 wram_at s wram v dma_start = wram
 wram_at s wram v unmapped = wram
 
+-- what a write does: whether its address is in the map, and the state after it, which off the map is that of before
+pub record MapWritten : Type 0 where
+  pub mapped : Bool
+  pub state : Cgb
+
+-- what the code hands back of it
+abbrev pub state_if_mapped : MapWritten → Option Cgb
+state_if_mapped m = cond m.mapped (Some m.state) None
+
 -- a write where nothing is locked: whether the address is mapped, and the state
 unfoldable pub stored_of : Cgb → WriteInput → ℕ → MapWritten
 stored_of s w a = record { mapped = writable (place_of a); state = state_at s w (place_of a) }
@@ -77,8 +85,3 @@ register_write_of s w a = apart s (map_write_of s w a) a
 -- no register's write touches work RAM, so a lock makes no difference to it
 unfoldable pub wram_after : Cgb → List ℕ → ℕ → ℕ → List ℕ
 wram_after s wram v a = wram_at s wram v (place_of a)
-
--- the result and work RAM of a write
-pub record Wrote (result : MapWritten) (r : MapWritten) (memory : List ℕ) (m : List ℕ) : Type 0 where
-  pub answer : r ≡ result
-  pub wram : m ≡ memory

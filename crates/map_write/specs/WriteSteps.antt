@@ -1,5 +1,5 @@
 -- What is shown of writes by their addresses (document 01, section 1; registers.rs, `map_write_byte`), for every address.
-use Rattle.std.specs.Prelude.{ℕ, ◌+◌, ◌-◌, ◌*◌, ◌/◌, ◌%◌, ◌≤◌, ◌≡◌, true, false, List, set}
+use Rattle.std.specs.Prelude.{ℕ, ◌+◌, ◌-◌, ◌*◌, ◌/◌, ◌%◌, ◌≤◌, ◌≡◌, true, false, List, Some, None, set}
 use Rattle.console.specs.Set.{with_dmg_compat, with_vram_dma, with_svbk, with_key1_armed, with_vram, with_vram_selected, with_ff_72}
 use Rattle.console.specs.Set.{with_ff_73, with_ff_74, with_ff_75}
 use Rattle.console.specs.Set.{with_extra_oam, with_object_dma}
@@ -8,19 +8,17 @@ use Rattle.hdma.specs.Pointers.{with_high, with_low}
 use Rattle.hdma.specs.Hdma5.{hdma5_written}
 use Rattle.registers.specs.Ram.{wram_index_of}
 use Rattle.registers.specs.MapSteps.{MappedWrite, LocksWrite}
-use Rattle.registers.specs.declared.WramIndex.TheVariants.{At, Elsewhere}
-use Rattle.map_write.specs.Write.{with_source, with_dest, map_write_of, wram_after}
-use Rattle.map_write.specs.declared.MapWritten.{MapWritten}
+use Rattle.map_write.specs.Write.{MapWritten, with_source, with_dest, map_write_of, wram_after}
 use Rattle.map_write.specs.declared.WriteInput.{WriteInput}
 
 pub record MapWrites (s : Cgb) (wram : List ℕ) (w : WriteInput) (a : ℕ) : Type 0 where
   -- 4: "address not in the call's map"; there a write leaves everything
   pub unmapped : (MappedWrite a → ⊥) → map_write_of s w a ≡ record { mapped = false; state = s }
   -- the byte of work RAM at the address's index, of which `RamSteps` tells, is replaced, and nothing else
-  pub ram : (index : ℕ) → wram_index_of s.svbk a ≡ At index → wram_after s wram w.value a ≡ set wram index w.value
-  pub ram_state : (index : ℕ) → wram_index_of s.svbk a ≡ At index → map_write_of s w a ≡ record { mapped = true; state = s }
+  pub ram : (index : ℕ) → wram_index_of s.svbk a ≡ Some index → wram_after s wram w.value a ≡ set wram index w.value
+  pub ram_state : (index : ℕ) → wram_index_of s.svbk a ≡ Some index → map_write_of s w a ≡ record { mapped = true; state = s }
   -- no other write touches work RAM
-  pub elsewhere : wram_index_of s.svbk a ≡ Elsewhere → wram_after s wram w.value a ≡ wram
+  pub elsewhere : wram_index_of s.svbk a ≡ None → wram_after s wram w.value a ≡ wram
   -- "FEA0–FEFF is 24 bytes, index ((address / 32) mod 8 − 5) × 8 + address mod 8"
   pub extra :
       0xFEA0 ≤ a → a ≤ 0xFEFF →

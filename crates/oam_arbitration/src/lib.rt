@@ -12,8 +12,10 @@ use console::vram_dma::{OamContention, VramDma};
 fn contends(d: VramDma, double_speed: bool, i: ArbitrationInput) -> bool
     ensures { result ≡ contends double_speed i d }
 {
-    let moves = dma_status::will_move(d);
-    !double_speed & (i.oam_transferring | d.oam.was_transferring) & (i.hold | i.suspended) & moves
+    !double_speed
+        & (i.oam_transferring | d.oam.was_transferring)
+        & (i.hold | i.suspended)
+        & dma_status::will_move(d)
 }
 
 // Double speed: an escape byte's tenure holds OAM DMA's byte.
@@ -21,8 +23,11 @@ fn contends(d: VramDma, double_speed: bool, i: ArbitrationInput) -> bool
 fn stalls(d: VramDma, double_speed: bool, i: ArbitrationInput) -> bool
     ensures { result ≡ stalls double_speed i d }
 {
-    let moves = dma_status::will_move(d);
-    double_speed & i.oam_transferring & (i.hold | i.suspended) & d.cursor.escape_byte & moves
+    double_speed
+        & i.oam_transferring
+        & (i.hold | i.suspended)
+        & d.cursor.escape_byte
+        & dma_status::will_move(d)
 }
 
 #[tactic(auto, unfolding(bus::specs::Arbitration::arbitration_of))]
@@ -30,12 +35,12 @@ fn verdict(contended: bool, stalled: bool) -> Arbitration
     ensures { result ≡ arbitration_of contended stalled }
 {
     if contended {
-        return Arbitration::Contended;
+        Arbitration::Contended
+    } else if stalled {
+        Arbitration::Stall
+    } else {
+        Arbitration::Clear
     }
-    if stalled {
-        return Arbitration::Stall;
-    }
-    Arbitration::Clear
 }
 
 #[tactic(auto, unfolding(bus::specs::Arbitration::arbitrated_of))]
@@ -43,13 +48,11 @@ pub fn arbitrate_oam_bus(d: VramDma, double_speed: bool, i: ArbitrationInput) ->
     ensures { result ≡ arbitrated_of double_speed i d }
 {
     let contended = contends(d, double_speed, i);
-    let stalled = stalls(d, double_speed, i);
-    let answer = verdict(contended, stalled);
     Arbitrated {
-        answer: answer,
+        answer: verdict(contended, stalls(d, double_speed, i)),
         oam: OamContention {
             was_transferring: i.oam_transferring,
-            contended: contended,
+            contended,
         },
     }
 }

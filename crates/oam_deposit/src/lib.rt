@@ -10,9 +10,7 @@ use transfer::pair::BytePair;
 pub fn phase(block_edge: u64, oam_edge: u64) -> u64
     ensures { result ≡ phase_of block_edge oam_edge }
 {
-    let apart = std::num::wrapping_sub_u64(block_edge, oam_edge);
-    let aligned = std::num::wrapping_sub_u64(apart, 2);
-    aligned / 2 % 4
+    block_edge.wrapping_sub(oam_edge).wrapping_sub(2) / 2 % 4
 }
 
 // Which byte of the call OAM DMA's coincides with: the second one at phases 0 and 3, where there is one.
@@ -40,7 +38,5 @@ pub fn deposit(
         return;
     }
     let at = coinciding(count, phase);
-    let pair = pairs[at];
-    let byte = bytes[at];
-    bus_memory::store::commit_oam(oam, 0xFE00 + pair.source % 256, byte);
+    bus_memory::store::commit_oam(oam, 0xFE00 + pairs[at].source % 256, bytes[at]);
 }

@@ -18,9 +18,9 @@ pub fn start(page: u8, start_edge: u64) -> ObjectDma
 {
     ObjectDma {
         running: true,
-        page: page,
+        page,
         counted: 0,
-        start_edge: start_edge,
+        start_edge,
     }
 }
 
@@ -28,12 +28,12 @@ pub fn start(page: u8, start_edge: u64) -> ObjectDma
 pub fn source(o: ObjectDma) -> u16
     ensures { result ≡ source_of o }
 {
-    (o.page as u16) * 256 + (o.counted as u16)
+    u16::from(o.page) * 256 + u16::from(o.counted)
 }
 
 // Where it goes in OAM.
 pub fn target(o: ObjectDma) -> u16
     ensures { result ≡ target_of o }
 {
-    0xFE00 + (o.counted as u16)
+    0xFE00 + u16::from(o.counted)
 }

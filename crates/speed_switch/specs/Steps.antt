@@ -1,5 +1,5 @@
 -- What is shown of the switch, in document 01's words (section 4).
-use Rattle.std.specs.Prelude.{ℕ, ◌≡◌, true, false, not}
+use Rattle.std.specs.Prelude.{◌≡◌, true, false, not}
 use Rattle.console.specs.Set.{with_vram_dma, with_double_speed, with_key1_armed, with_speed_switch_blackout, with_switch_relock_debit, with_console_state}
 use Rattle.console.specs.Set.{with_console_blackout_anchor}
 use Rattle.console.specs.declared.Cgb.{Cgb}

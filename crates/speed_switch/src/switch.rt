@@ -2,9 +2,9 @@
 ghost use Rattle.std.specs.Prelude.{◌≡◌};
 ghost use Rattle.speed_switch.specs.Switch.{blackout_of, debit_after, switched_of};
 
-use arithmetic::pick::pick32;
+use arithmetic::pick::pick;
 use blackout::relock_edges;
-use console::Cgb;
+use console::{Cgb, CgbConsoleState};
 use cut::SwitchOutcome;
 
 // What a switch attempt is given.
@@ -19,6 +19,7 @@ pub struct SwitchInput {
     pub master_edge: u64,
 }
 
+// Both parts always stand, so no Option.
 #[derive(Clone, Copy)]
 pub struct Switched {
     pub outcome: SwitchOutcome,
@@ -31,10 +32,11 @@ pub struct Switched {
 fn blackout_count(up: bool, debit: bool, interrupt_ready: bool) -> u32
     ensures { result ≡ blackout_of up debit interrupt_ready }
 {
-    let upward = pick32(debit, 131079, 131077);
-    let downward = pick32(debit, 262144, 262146);
-    let held = pick32(up, upward, downward);
-    pick32(interrupt_ready, relock_edges(up), held)
+    if interrupt_ready {
+        return relock_edges(up);
+    }
+    let moved = pick(debit, 2, 0);
+    pick(up, 131077 + moved, 262146 - moved)
 }
 
 // The displacement of the clock: set upward at phase 3, spent by the next upward switch.
@@ -49,20 +51,19 @@ pub fn switch(s: Cgb, input: SwitchInput) -> Switched
     ensures { result ≡ switched_of input s }
 {
     let up = !s.double_speed;
-    let d = s.vram_dma;
-    let outcome = cut::outcome(d, up);
-    let dma = cut::engine_after(d, up);
-    let blackout = blackout_count(up, s.switch_relock_debit, input.interrupt_ready);
-    let debit = debit_after(up, s.switch_relock_debit, input.dot_phase);
-    let mut t = s;
-    t.vram_dma = dma;
-    t.double_speed = up;
-    t.key1_armed = false;
-    t.speed_switch_blackout = blackout;
-    t.switch_relock_debit = debit;
-    t.console_state.blackout_anchor = input.master_edge;
     Switched {
-        outcome: outcome,
-        state: t,
+        outcome: cut::outcome(s.vram_dma, up),
+        state: Cgb {
+            vram_dma: cut::engine_after(s.vram_dma, up),
+            double_speed: up,
+            key1_armed: false,
+            speed_switch_blackout: blackout_count(up, s.switch_relock_debit, input.interrupt_ready),
+            switch_relock_debit: debit_after(up, s.switch_relock_debit, input.dot_phase),
+            console_state: CgbConsoleState {
+                blackout_anchor: input.master_edge,
+                ..s.console_state
+            },
+            ..s
+        },
     }
 }

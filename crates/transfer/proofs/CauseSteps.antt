@@ -1,34 +1,32 @@
 -- A pair's cause tells what document 02, A3, says (specs, `CauseSteps`). Assumes nothing.
 use Prim.Native.Nat.{ℕ, ◌<◌, ◌-◌}
 use native.Mathlib.Omega.{arith}
-use mathlib.Core.Path.{◌≡◌, refl, sym, ap, subst, ◌∙◌}
-use mathlib.Core.Bool.{Bool, true, false, cond, ◌&&◌, false≢true}
-use mathlib.Core.Logic.{◌↔◌, ⊎_elim}
+use mathlib.Core.Path.{◌≡◌, refl, sym, ap, ◌∙◌}
+use mathlib.Core.Bool.{Bool, true, false, cond, false≢true}
+use mathlib.Core.Logic.{⊎_elim}
 use native.Mathlib.Nat.{eq-zero-or-pos}
 use lib.Dec.{eqb}
-use borrow.Author.Tests.{eqb-true, eqb-false, eq-eqb, ne_eqb}
+use borrow.Author.Tests.{eqb-true, eqb-false, ne_eqb}
+use Rattle.std.specs.Prelude.{Some}
 use Rattle.console.specs.declared.vram_dma.TransferCursor.{TransferCursor}
 use Rattle.console.specs.declared.vram_dma.VramDma.{VramDma}
 use Rattle.transfer.specs.CauseSteps.{Caused, CauseSteps}
-use Rattle.transfer.specs.Pair.{moving_of, left_after, cursor_after, cause_if, cause_of, advanced_of, next_byte_of, with_quota, drain_of}
-use Rattle.transfer.specs.PairSteps.{Ready}
+use Rattle.transfer.specs.Pair.{NextAnswer, moving_of, left_after, cursor_after, cause_if, cause_of, advanced_of, next_byte_of, with_quota, drain_of}
 use Rattle.transfer.specs.declared.pair.BytePair.{BytePair}
 use Rattle.transfer.specs.declared.pair.Cause.{Cause}
 use Rattle.transfer.specs.declared.pair.Cause.TheVariants.{GoingOn, CountedOut, Carried}
-use Rattle.transfer.specs.declared.pair.NextAnswer.{NextAnswer}
-use Rattle.transfer.specs.declared.pair.NextAnswer.TheVariants.{Pair, None}
 use Rattle.transfer.specs.declared.pair.NextByte.{NextByte}
 use Rattle.transfer.proofs.PairSteps.{pair_steps, some_left, steps, drained, is_ready, no_pair_lem}
 
 -- the three are different
 pub counted_not_going : CountedOut ≡ GoingOn → ⊥
-counted_not_going e = let z : ◌≡◌ {A = ℕ} 0 1 = cc in omega arith
+counted_not_going e = cc
 
 pub counted_not_carried : CountedOut ≡ Carried → ⊥
-counted_not_carried e = let z : ◌≡◌ {A = ℕ} 0 1 = cc in omega arith
+counted_not_carried e = cc
 
 pub going_not_carried : GoingOn ≡ Carried → ⊥
-going_not_carried e = let z : ◌≡◌ {A = ℕ} 0 1 = cc in omega arith
+going_not_carried e = cc
 
 -- what the cause tells, by its two tests; where the destination carries nothing is left
 module _ (dest left : ℕ) where
@@ -68,11 +66,11 @@ pub left_after_lem : (d : VramDma) → (advanced_of d).cursor.remaining ≡ left
 unfolding advanced_of cursor_after
 left_after_lem d = refl
 
-same_cause : (p q : BytePair) (j k : Cause) → ◌≡◌ {A = NextAnswer} (Pair p j) (Pair q k) → j ≡ k
-same_cause p q j k e = cc
+same_cause : (p q : BytePair) (j k : Cause) → ◌≡◌ {A = NextAnswer} (Some (p, j)) (Some (q, k)) → j ≡ k
+same_cause p q j k e = let same : ◌≡◌ {A = BytePair × Cause} (p, j) (q, k) = cc in ap (λ (x : BytePair × Cause). x.1) same
 
 -- a pair that is answered has the cursor's cause, and the engine has gone on
-module _ (d : VramDma) (p : BytePair) (k : Cause) (came : (next_byte_of d).answer ≡ Pair p k) where
+module _ (d : VramDma) (p : BytePair) (k : Cause) (came : (next_byte_of d).answer ≡ Some (p, k)) where
   taken : (next_byte_of d).dma.cursor.remaining ≡ left_after d.cursor
   taken = ap (λ (x : NextByte). x.dma.cursor.remaining) (steps d (is_ready d p k came)) ∙ left_after_lem d
 
@@ -94,7 +92,7 @@ last_byte left false true some inside e = absurd (omega (arith, some, e))
 last_byte left false false some inside e = (omega (arith, some, e), refl)
 
 from_one :
-    (d : VramDma) (p : BytePair) → (next_byte_of d).answer ≡ Pair p CountedOut →
+    (d : VramDma) (p : BytePair) → (next_byte_of d).answer ≡ Some (p, CountedOut) →
     (d.cursor.remaining ≡ 1) × (d.cursor.escape_byte ≡ false)
 from_one d p came =
     let out = (pair d p CountedOut came).counted_out.0 refl in
@@ -102,7 +100,7 @@ from_one d p came =
     (ne_eqb _ _ out.0) (sym (taken d p CountedOut came) ∙ out.1)
 
 -- a drain answers with a pair where an escape is owed and the engine moves: the pair of a quota of 1
-drain_owes : (d : VramDma) (p : BytePair) (k : Cause) → (drain_of d).answer ≡ Pair p k → (d.cursor.escape_byte ≡ true) × (moving_of d ≡ true)
+drain_owes : (d : VramDma) (p : BytePair) (k : Cause) → (drain_of d).answer ≡ Some (p, k) → (d.cursor.escape_byte ≡ true) × (moving_of d ≡ true)
 drain_owes d p k came = by d.cursor.escape_byte (moving_of d) refl refl
   where
     by : (e m : Bool) → d.cursor.escape_byte ≡ e → moving_of d ≡ m → (e ≡ true) × (m ≡ true)
@@ -110,17 +108,17 @@ drain_owes d p k came = by d.cursor.escape_byte (moving_of d) refl refl
     by false b e m = absurd (no_pair_lem p k (sym (ap (λ (x : NextByte). x.answer) (pair_steps.none_owed d e)) ∙ came))
     by true false e m = absurd (no_pair_lem p k (sym (ap (λ (x : NextByte). x.answer) (pair_steps.owed_still d m)) ∙ came))
 
-module _ (d : VramDma) (p : BytePair) (k : Cause) (came : (drain_of d).answer ≡ Pair p k) where
+module _ (d : VramDma) (p : BytePair) (k : Cause) (came : (drain_of d).answer ≡ Some (p, k)) where
   drain_is : drain_of d ≡ next_byte_of (with_quota 1 d)
   drain_is = let owes = drain_owes d p k came in drained d owes.0 owes.1
 
-  came_there : (next_byte_of (with_quota 1 d)).answer ≡ Pair p k
+  came_there : (next_byte_of (with_quota 1 d)).answer ≡ Some (p, k)
   came_there = sym (ap (λ (x : NextByte). x.answer) drain_is) ∙ came
 
   drain : Caused d.cursor.dest (drain_of d).dma.cursor.remaining k
   drain = rw drain_is (pair (with_quota 1 d) p k came_there)
 
-drain_not_counted : (d : VramDma) (p : BytePair) → (drain_of d).answer ≡ Pair p CountedOut → ⊥
+drain_not_counted : (d : VramDma) (p : BytePair) → (drain_of d).answer ≡ Some (p, CountedOut) → ⊥
 drain_not_counted d p came =
     false≢true (sym (from_one (with_quota 1 d) p (came_there d p CountedOut came)).1 ∙ (drain_owes d p CountedOut came).0)
 

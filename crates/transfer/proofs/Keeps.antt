@@ -1,14 +1,13 @@
 -- The pair, the escape drain, LCD off and instruction retired leave alone what `Keeps` says (specs). Assumes nothing.
-use Prim.Native.Nat.{◌<◌}
 use native.Mathlib.Omega.{arith}
 use mathlib.Core.Path.{◌≡◌, refl}
 use mathlib.Core.Bool.{Bool, true, false, cond, ◌&&◌}
 use lib.Dec.{ltb}
+use Rattle.std.specs.Prelude.{Some, None}
 use Rattle.console.specs.declared.vram_dma.VramDma.{VramDma}
 use Rattle.transfer.specs.Keeps.{KeepsMarks, SixteenBits, Keeps}
 use Rattle.transfer.specs.Latch.{latched_block, latched_of, unclaimed, latches_dark, lcd_disabled_of, retired_of}
 use Rattle.transfer.specs.Pair.{moving_of, cursor_after, block_after, arb_after, advanced_of, pair_of, cause_of, next_byte_of, with_quota, drain_of}
-use Rattle.transfer.specs.declared.pair.NextAnswer.TheVariants.{Pair, None}
 use Rattle.transfer.specs.declared.pair.NextByte.{NextByte}
 
 pub keeps_refl : (d : VramDma) → KeepsMarks d d
@@ -21,7 +20,7 @@ next_keeps P d same moved = by (ltb 0 d.cursor.quota && moving_of d)
   where
     by :
         (b : Bool) →
-        (let taken : NextByte = record { answer = Pair (pair_of d.cursor) (cause_of d.cursor); dma = advanced_of d } in
+        (let taken : NextByte = record { answer = Some (pair_of d.cursor, cause_of d.cursor); dma = advanced_of d } in
         P (cond b taken (record { answer = None; dma = d })).dma)
     by true = moved
     by false = same

@@ -1,5 +1,5 @@
 -- The pair and the escape drain do what document 01 says of them (specs, `PairSteps`). Assumes nothing.
-use Prim.Native.Nat.{ℕ, ◌-◌, ◌<◌}
+use Prim.Native.Nat.{◌-◌, ◌<◌}
 use native.Mathlib.Omega.{arith}
 use mathlib.Core.Path.{◌≡◌, refl, sym, ap, ◌∙◌}
 use mathlib.Core.Bool.{Bool, true, false, not, ◌&&◌, ◌||◌, and-true, and-false, false≢true}
@@ -7,15 +7,15 @@ use mathlib.Core.Logic.{⊎_elim}
 use native.Mathlib.Nat.{eq-zero-or-pos}
 use lib.Dec.{ltb, lit<}
 use borrow.Author.Tests.{lt-ltb, le-ltb, eq-eqb, ne_eqb}
+use Rattle.std.specs.Prelude.{Some, None}
 use Rattle.countdown.specs.Countdown.{active_of}
 use Rattle.console.specs.Modes.{is_general}
 use Rattle.console.specs.declared.vram_dma.VramDma.{VramDma}
-use Rattle.transfer.specs.Pair.{moving_of, cursor_after, block_after, arb_after, pair_of, cause_of, advanced_of, next_byte_of, with_quota, drain_of}
+use Rattle.transfer.specs.Pair.{NextAnswer, moving_of, cursor_after, block_after, arb_after, pair_of, cause_of, advanced_of}
+use Rattle.transfer.specs.Pair.{next_byte_of, with_quota, drain_of}
 use Rattle.transfer.specs.PairSteps.{Ready, Moved, PairSteps}
 use Rattle.transfer.specs.declared.pair.BytePair.{BytePair}
 use Rattle.transfer.specs.declared.pair.Cause.{Cause}
-use Rattle.transfer.specs.declared.pair.NextAnswer.{NextAnswer}
-use Rattle.transfer.specs.declared.pair.NextAnswer.TheVariants.{Pair, None}
 use Rattle.transfer.specs.declared.pair.NextByte.{NextByte}
 
 -- bytes are left wherever the engine moves
@@ -37,7 +37,7 @@ unfolding advanced_of block_after
 block_falls d = refl
 
 module _ (d : VramDma) (r : Ready d) where
-  pub steps : next_byte_of d ≡ record { answer = Pair (pair_of d.cursor) (cause_of d.cursor); dma = advanced_of d }
+  pub steps : next_byte_of d ≡ record { answer = Some (pair_of d.cursor, cause_of d.cursor); dma = advanced_of d }
   unfolding next_byte_of
   steps = rw (lt-ltb 0 d.cursor.quota r.quota, r.moving)
 
@@ -91,7 +91,7 @@ drained d owed moving = rw (both d.cursor.escape_byte (moving_of d) owed moving)
 
 drains :
     (d : VramDma) → d.cursor.escape_byte ≡ true → moving_of d ≡ true →
-    ((drain_of d).answer ≡ Pair (pair_of d.cursor) (cause_of d.cursor)) × ((drain_of d).dma.cursor.quota ≡ 0)
+    ((drain_of d).answer ≡ Some (pair_of d.cursor, cause_of d.cursor)) × ((drain_of d).dma.cursor.quota ≡ 0)
 unfolding advanced_of cursor_after
 drains d owed moving = rw (drained d owed moving, steps (with_quota 1 d) (one d moving)) (refl, refl)
 
@@ -124,11 +124,11 @@ pair_steps =
       owed_still = owed_still;
     }
 
-pub no_pair_lem : (p : BytePair) (k : Cause) → ◌≡◌ {A = NextAnswer} None (Pair p k) → ⊥
-no_pair_lem p k e = let z : ◌≡◌ {A = ℕ} 0 1 = cc in omega arith
+pub no_pair_lem : (p : BytePair) (k : Cause) → ◌≡◌ {A = NextAnswer} None (Some (p, k)) → ⊥
+no_pair_lem p k e = cc
 
 -- a pair is answered by an engine that is ready
-pub is_ready : (d : VramDma) (p : BytePair) (k : Cause) → (next_byte_of d).answer ≡ Pair p k → Ready d
+pub is_ready : (d : VramDma) (p : BytePair) (k : Cause) → (next_byte_of d).answer ≡ Some (p, k) → Ready d
 is_ready d p k h = by (moving_of d) refl
   where
     by : (b : Bool) → moving_of d ≡ b → Ready d

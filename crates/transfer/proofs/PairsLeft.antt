@@ -1,23 +1,22 @@
 -- Each pair is one of those that a transfer still hands out (specs, `PairsLeft`). Assumes nothing.
 use Prim.Native.Nat.{ℕ, ◌+◌, ◌-◌, ◌%◌, ◌<◌, min}
 use native.Mathlib.Omega.{arith}
-use mathlib.Core.Path.{◌≡◌, refl, sym, ap, subst, ◌∙◌}
+use mathlib.Core.Path.{◌≡◌, refl, sym, ap, ◌∙◌}
 use mathlib.Core.Bool.{Bool, true, false, cond, false≢true}
 use mathlib.Core.Logic.Iff
 use mathlib.Core.Logic.{◌↔◌, ◌⊎◌, inl, inr, ⊎_elim}
 use native.Mathlib.Nat.{eq-zero-or-pos}
 use lib.Dec.{ltb, eqb}
-use borrow.Author.Tests.{lt-ltb, le-ltb, ltb-true, ltb-false, eqb-true, eqb-false, eq-eqb, ne_eqb}
+use borrow.Author.Tests.{lt-ltb, le-ltb, ltb-true, ltb-false, eqb-true, eqb-false, ne_eqb}
 use Rattle.countdown.specs.Countdown.{active_of}
 use Rattle.console.specs.Modes.{is_general}
 use Rattle.console.specs.declared.vram_dma.TransferMode.{TransferMode}
 use Rattle.console.specs.declared.vram_dma.TransferMode.TheVariants as mode
 use Rattle.console.specs.declared.vram_dma.VramDma.{VramDma}
-use Rattle.transfer.specs.Pair.{moving_of, left_after, cursor_after, block_after, advanced_of, next_byte_of}
+use Rattle.transfer.specs.Pair.{moving_of, left_after, cursor_after, block_after, advanced_of}
 use Rattle.transfer.specs.PairsLeft.{pairs_left, movable, PairsLeft}
 use Rattle.transfer.specs.PairSteps.{Ready}
 use Rattle.transfer.specs.QuestionSteps.{Moving}
-use Rattle.transfer.specs.declared.pair.NextByte.{NextByte}
 use Rattle.transfer.proofs.PairSteps.{steps}
 use Rattle.transfer.proofs.QuestionSteps.{when_general, question_steps}
 

@@ -1,12 +1,12 @@
 -- The questions are answered yes exactly when the conditions of their Rust methods hold (specs, `QuestionSteps`). Assumes
 -- nothing.
 use Prim.Native.Nat.{ℕ, ◌<◌}
-use native.Mathlib.Omega.{arith}
 use mathlib.Core.Path.{◌≡◌, refl, sym, ap}
 use mathlib.Core.Bool.{Bool, true, false, cond, not, ◌&&◌, ◌||◌, false≢true}
 use mathlib.Core.Logic.Iff
 use mathlib.Core.Logic.{◌↔◌, inl, inr, ⊎_elim}
 use lib.Dec.{ltb, leb, eqb}
+use Rattle.std.specs.Prelude.{Some, None}
 use Rattle.countdown.specs.Countdown.{active_of}
 use Rattle.console.specs.Modes.{is_general}
 use Rattle.console.specs.declared.vram_dma.TransferMode.{TransferMode}
@@ -16,7 +16,6 @@ use Rattle.transfer.specs.Questions.{write_address, block_left, request_standing
 use Rattle.transfer.specs.Pair.{moving_of}
 use Rattle.transfer.specs.Conflict.{will_move, conflicts, conflict_of}
 use Rattle.transfer.specs.QuestionSteps.{Moving, WillMove, BlockLeft, RequestStanding, HoldsCpu, SeizesBus, Conflicts, QuestionSteps}
-use Rattle.transfer.specs.declared.Conflict.TheVariants.{Source, None}
 use Rattle.transfer.proofs.Conditions.{when_lt, when_le, when_eq, when_zero, when_both, when_either, when_false}
 
 pub when_general : (m : TransferMode) → (is_general m ≡ true) ↔ (m ≡ General)
@@ -115,15 +114,15 @@ module _ (d : VramDma) where
         )
 
 -- the answer tells the test
-found : (b : Bool) (x : ℕ) → (cond b (Source x) None ≡ Source x) ↔ (b ≡ true)
+found : (b : Bool) (x : ℕ) → (cond b (Some x) None ≡ Some x) ↔ (b ≡ true)
 found true x = (λ e. refl, λ e. refl)
-found false x = (λ e. let z : ◌≡◌ {A = ℕ} 0 1 = cc in absurd (omega arith), λ e. absurd (false≢true e))
+found false x = (λ e. cc, λ e. absurd (false≢true e))
 
-none : (b : Bool) (x : ℕ) → (cond b (Source x) None ≡ None) ↔ (b ≡ false)
-none true x = (λ e. let z : ◌≡◌ {A = ℕ} 0 1 = cc in absurd (omega arith), λ e. absurd (false≢true (sym e)))
+none : (b : Bool) (x : ℕ) → (cond b (Some x) None ≡ None) ↔ (b ≡ false)
+none true x = (λ e. cc, λ e. absurd (false≢true (sym e)))
 none false x = (λ e. refl, λ e. refl)
 
-conflict : (d : VramDma) (double : Bool) (a : ℕ) → (conflict_of double a d ≡ Source d.cursor.source) ↔ Conflicts double a d
+conflict : (d : VramDma) (double : Bool) (a : ℕ) → (conflict_of double a d ≡ Some d.cursor.source) ↔ Conflicts double a d
 unfolding conflict_of
 conflict d double a = Iff.trans (found (conflicts double a d) d.cursor.source) (conflicting d double a)
 

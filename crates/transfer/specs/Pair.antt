@@ -1,5 +1,5 @@
 -- The next pair (document 01, section 3; vram_dma.rs, `next_byte`) and the escape drain (section 4).
-use Rattle.std.specs.Prelude.{ℕ, ◌+◌, ◌-◌, ◌^◌, ◌%◌, Bool, false, cond, not, ◌&&◌, ◌||◌, ltb, eqb}
+use Rattle.std.specs.Prelude.{ℕ, ◌+◌, ◌-◌, ◌^◌, ◌%◌, Bool, false, cond, not, ◌&&◌, ◌||◌, ltb, eqb, Option, Some, None}
 use Rattle.countdown.specs.Countdown.{active_of}
 use Rattle.console.specs.Modes.{is_general}
 use Rattle.console.specs.Set.{with_cursor_source, with_cursor_dest, with_cursor_mode, with_cursor_remaining, with_cursor_quota, with_cursor_escape_byte}
@@ -14,7 +14,6 @@ use Rattle.transfer.specs.Questions.{write_address}
 use Rattle.transfer.specs.declared.pair.BytePair.{BytePair}
 use Rattle.transfer.specs.declared.pair.Cause.{Cause}
 use Rattle.transfer.specs.declared.pair.Cause.TheVariants.{GoingOn, CountedOut, Carried}
-use Rattle.transfer.specs.declared.pair.NextAnswer.TheVariants.{Pair, None}
 use Rattle.transfer.specs.declared.pair.NextByte.{NextByte}
 
 -- the engine is moving: "At left 0 the engine never moves, whatever block stands and even with an escape owed"
@@ -71,11 +70,15 @@ cause_if carried left = cond carried Carried (cond (eqb left 0) CountedOut Going
 abbrev pub cause_of : TransferCursor → Cause
 cause_of c = cause_if (eqb c.dest 0xFFFF) (left_after c)
 
+-- what a next-pair call and an escape drain answer: the pair, if one came, with how the run goes on
+abbrev pub NextAnswer : Type 0
+NextAnswer = Option (BytePair × Cause)
+
 -- "if quota > 0 and the engine is moving, else None and no change"
 unfoldable pub next_byte_of : VramDma → NextByte
 next_byte_of d =
     cond (ltb 0 d.cursor.quota && moving_of d)
-    (record { answer = Pair (pair_of d.cursor) (cause_of d.cursor); dma = advanced_of d })
+    (record { answer = Some (pair_of d.cursor, cause_of d.cursor); dma = advanced_of d })
     (record { answer = None; dma = d })
 
 abbrev pub with_quota : ℕ → VramDma → VramDma

@@ -1,11 +1,10 @@
 -- What is shown of the pair and of the escape drain, in document 01's words (sections 3 and 4).
-use Rattle.std.specs.Prelude.{◌+◌, ◌-◌, ◌%◌, ◌<◌, ◌≡◌, true, false}
+use Rattle.std.specs.Prelude.{◌+◌, ◌-◌, ◌%◌, ◌<◌, ◌≡◌, true, false, Some, None}
 use Rattle.console.specs.Set.{with_block_remaining, with_block_from_arm, with_arb_granted_ahead, with_arb_park_waits_for_fetch, with_arb_idle_claim}
 use Rattle.console.specs.Set.{with_dma_cursor, with_dma_block, with_dma_arb}
 use Rattle.console.specs.declared.vram_dma.TransferMode.TheVariants as mode
 use Rattle.console.specs.declared.vram_dma.VramDma.{VramDma}
 use Rattle.transfer.specs.Pair.{moving_of, pair_of, cause_of, next_byte_of, with_quota, drain_of}
-use Rattle.transfer.specs.declared.pair.NextAnswer.TheVariants.{Pair, None}
 
 -- "if quota > 0 and the engine is moving"
 pub record Ready (d : VramDma) : Type 0 where
@@ -54,7 +53,7 @@ pub record PairSteps : Type 0 where
   -- "At left 0 the engine never moves, whatever block stands and even with an escape owed"
   pub never : (d : VramDma) → d.cursor.remaining ≡ 0 → moving_of d ≡ false
   -- "A next-pair call gives (source, 8000h + destination mod 8192) if quota > 0 and the engine is moving"
-  pub gives : (d : VramDma) → Ready d → (next_byte_of d).answer ≡ Pair (pair_of d.cursor) (cause_of d.cursor)
+  pub gives : (d : VramDma) → Ready d → (next_byte_of d).answer ≡ Some (pair_of d.cursor, cause_of d.cursor)
   pub moves : (d : VramDma) → Ready d → Moved d (next_byte_of d).dma
   -- "else None and no change"
   pub no_quota : (d : VramDma) → d.cursor.quota ≡ 0 → next_byte_of d ≡ record { answer = None; dma = d }
@@ -62,7 +61,7 @@ pub record PairSteps : Type 0 where
   -- "An escape drain hands out one pair if an escape is owed and the engine moves, and then leaves quota 0"
   pub drains :
       (d : VramDma) → d.cursor.escape_byte ≡ true → moving_of d ≡ true →
-      ((drain_of d).answer ≡ Pair (pair_of d.cursor) (cause_of d.cursor)) × ((drain_of d).dma.cursor.quota ≡ 0)
+      ((drain_of d).answer ≡ Some (pair_of d.cursor, cause_of d.cursor)) × ((drain_of d).dma.cursor.quota ≡ 0)
   -- and the engine after it is that of a pair: the drain brings a quota of 1 for it, whatever quota stood
   pub drain_moves : (d : VramDma) → d.cursor.escape_byte ≡ true → moving_of d ≡ true → Moved (with_quota 1 d) (drain_of d).dma
   -- "else it changes nothing"

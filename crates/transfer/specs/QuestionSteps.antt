@@ -1,13 +1,12 @@
 -- What is shown of the questions that are asked of the engine (vram_dma.rs, `impl VramDma`): each is answered yes exactly when
 -- the conditions of its Rust method hold, which stand here as facts about fields and numbers. A question and its conditions
 -- have one name, the conditions with a capital letter; `⊎` is "or".
-use Rattle.std.specs.Prelude.{ℕ, ◌+◌, ◌%◌, ◌<◌, ◌≤◌, ◌≡◌, Bool, true, ◌↔◌, ◌⊎◌}
+use Rattle.std.specs.Prelude.{ℕ, ◌+◌, ◌%◌, ◌<◌, ◌≤◌, ◌≡◌, Bool, true, ◌↔◌, ◌⊎◌, Some, None}
 use Rattle.console.specs.declared.vram_dma.TransferMode.TheVariants.{General}
 use Rattle.console.specs.declared.vram_dma.VramDma.{VramDma}
 use Rattle.transfer.specs.Questions.{request_standing, holds_cpu, seizes_bus}
 use Rattle.transfer.specs.Pair.{moving_of}
 use Rattle.transfer.specs.Conflict.{will_move, conflict_of}
-use Rattle.transfer.specs.declared.Conflict.TheVariants.{Source, None}
 
 -- `moving`: a General transfer, or a latched block that is ready; with bytes left in either case
 pub record Moving (d : VramDma) : Type 0 where
@@ -57,5 +56,5 @@ pub record QuestionSteps (d : VramDma) : Type 0 where
   pub holds : (holds_cpu d ≡ true) ↔ HoldsCpu d
   pub seizes : (seizes_bus d ≡ true) ↔ SeizesBus d
   -- the source of the byte that is being written where the five hold, none where one of them does not
-  pub conflict : (double : Bool) (a : ℕ) → (conflict_of double a d ≡ Source d.cursor.source) ↔ Conflicts double a d
+  pub conflict : (double : Bool) (a : ℕ) → (conflict_of double a d ≡ Some d.cursor.source) ↔ Conflicts double a d
   pub no_conflict : (double : Bool) (a : ℕ) → (conflict_of double a d ≡ None) ↔ (Conflicts double a d → ⊥)

@@ -18,10 +18,3 @@ pub enum VramDmaStatus {
         dest: u16,
     },
 }
-
-// The source of the byte that a CPU read of an address collides with: `Option<u16>` in the Rust.
-#[derive(Clone, Copy)]
-pub enum Conflict {
-    Source(u16),
-    None,
-}

@@ -19,22 +19,9 @@ pub enum Cause {
     Carried,
 }
 
-// The causes of a bus call's pairs, in order; a spare one is `GoingOn`.
-#[derive(Clone, Copy)]
-pub struct Causes {
-    pub first: Cause,
-    pub second: Cause,
-}
-
-// `Option<(u16, u16)>` in the Rust; the cause stands beside the pair.
-#[derive(Clone, Copy)]
-pub enum NextAnswer {
-    Pair(BytePair, Cause),
-    None,
-}
-
+// The pair, if one came, with how the run goes on.
 #[derive(Clone, Copy)]
 pub struct NextByte {
-    pub answer: NextAnswer,
+    pub answer: Option<(BytePair, Cause)>,
     pub dma: VramDma,
 }

@@ -3,12 +3,12 @@ use Rattle.bus_commit.proofs.Committed.{committed_released, committed_cell, comm
 use Rattle.bus_commit.proofs.commit_bytes.Goals as goal
 
 pub returns-then-released : goal.returns-then-released
-returns-then-released c = committed_released _ c.args.i _ _ _ _ _ _ c.if-released.true c.rest.ensures
+returns-then-released c = committed_released _ c.args.i _ _ _ _ _ _ c.if-released.true c.idle.ensures
 
 pub returns-then-cell : goal.returns-then-cell
 returns-then-cell c =
     let a = c.args in
-    committed_cell a.banks a.i a.d _ _ _ _ _ c.tick-cell.result c.if-released.false c.tick-cell.ensures c.if-cell.true c.setup.ensures
+    committed_cell a.banks a.i a.d _ _ _ _ _ c.tick-cell.result c.if-released.false c.tick-cell.ensures c.if-cell.true c.idle-then-cell.ensures
 
 pub returns : goal.returns
 returns c =
