@@ -27,10 +27,24 @@ function camel(s,    parts, n, i, r) {
     for (i = 1; i <= n; i++) r = r capital(parts[i])
     return r
 }
-function answer_type(a) { return camel(a) "Answer" }
-# what a query's answer is, by its definition
-function definition(a) { return (a "_call_of") in home ? a "_call_of" : a "_of" }
-function defined(k) { return definition(answer[k]) " s" (value[k] == "" ? "" : " (" value[k] " s)") }
+# what an answer gives: a number, a flag or a struct
+function given(a) {
+    if (a == "byte") return "ℕ"
+    if (a == "flag") return "Bool"
+    if (a == "claim" || a == "status") return "VramDma" camel(a)
+    return a == "object_dma" ? "ObjectDmaTally" : camel(a)
+}
+function given_uses(    i, list, n, a) {
+    n = split(answers_of(""), list, " ")
+    for (i = 1; i <= n; i++) {
+        a = list[i]
+        if (a == "byte" || a == "flag") continue
+        print "use Rattle." (a == "claim" ? "console" : a == "status" ? "transfer" : "answers") ".specs.declared." given(a) ".{" given(a) "}" > to
+    }
+}
+# what a query asks for, and what it answers
+function asks_for(k) { return "(" value[k] " s)" }
+function defined(k) { return "asked s " asks_for(k) }
 function out(file) { to = made file; return to }
 function folder(file) { sub(/\/[^\/]*$/, "", file); system("mkdir -p '" made file "'") }
 # use lines for these names, a line for each module that defines some
@@ -56,11 +70,6 @@ function use_lines(module, names,    list, n, i, line) {
 }
 function answers_of(suffix,    i, r, seen) {
     for (i = 1; i <= queries; i++) if (!(answer[query[i]] in seen)) { seen[answer[query[i]]]; r = r " " answer[query[i]] suffix }
-    return substr(r, 2)
-}
-function definitions_of(    i, list, n, r) {
-    n = split(answers_of(""), list, " ")
-    for (i = 1; i <= n; i++) r = r " " definition(list[i])
     return substr(r, 2)
 }
 function values_of(    i, r) {
@@ -96,7 +105,7 @@ function ask_code(    i, k) {
     print "    ensures { result ≡ told_of (asked_of state query) }" > to
     print "{" > to
     print "    match query {" > to
-    for (i = 1; i <= queries; i++) { k = query[i]; print "        Query::" variant[k] " => told::of_" answer[k] "(" at[k] "(state))," > to }
+    for (i = 1; i <= queries; i++) { k = query[i]; print "        Query::" variant[k] " => told::of(" at[k] "(state))," > to }
     print "    }" > to
     print "}" > to
     close(to)
@@ -106,12 +115,12 @@ function ask_spec(    i, k) {
     folder("crates/ask/specs/Ask.antt"); out("crates/ask/specs/Ask.antt")
     print "-- What each query says, by the definition that its contract cites. Written by tools/calls from calls.txt." > to
     print "use Rattle.console.specs.declared.Cgb.{Cgb}" > to
-    uses("Said " answers_of("_says") " " definitions_of() values_of())
+    uses("Said says asked " answers_of("_values") values_of())
     print "use Rattle.call.specs.declared.query.Query.{Query}" > to
     print "use Rattle.call.specs.declared.query.Query.TheVariants as query" > to
     print "" > to
     print "unfoldable pub asked_of : Cgb → Query → Said" > to
-    for (i = 1; i <= queries; i++) { k = query[i]; print "asked_of s query." variant[k] " = " answer[k] "_says (" defined(k) ")" > to }
+    for (i = 1; i <= queries; i++) { k = query[i]; print "asked_of s query." variant[k] " = says " answer[k] "_values (" defined(k) ")" > to }
     close(to)
     out("crates/ask/specs/Lib.antt")
     print "pub mod Ask" > to
@@ -119,28 +128,24 @@ function ask_spec(    i, k) {
 }
 
 # of one query: 7 or its values
-function said_by(k) { return "says_number " answer[k] "_says " answer[k] ".Refused (state_refusal s) _ _ refl (λ n. refl)" }
-function refused_uses(    i, a, list, n) {
-    n = split(answers_of(""), list, " ")
-    for (i = 1; i <= n; i++) print "use Rattle.answers.specs.declared." answer_type(list[i]) ".TheVariants as " list[i] > to
-}
+function said_by(k) { return "asked_told " answer[k] "_values s " asks_for(k) }
 
 function ask_law(    i, k) {
     folder("crates/ask/proofs/Asked.antt"); out("crates/ask/proofs/Asked.antt")
     print "-- Every query says 7, or its values where the state is one that a run leaves. Assumes nothing. Written by tools/calls" > to
     print "-- from calls.txt." > to
-    print "use mathlib.Core.Path.{◌≡◌, refl}" > to
+    print "use mathlib.Core.Path.{◌≡◌}" > to
     print "use Rattle.console.specs.declared.Cgb.{Cgb}" > to
-    uses("saying state_refusal " answers_of("_says") " " definitions_of())
-    refused_uses()
-    print "use Rattle.told.proofs.Says.{says_number, says_own}" > to
+    uses("saying state_refusal query_said " answers_of("_values") values_of())
+    print "use Rattle.answers.proofs.Queries.{asked_told}" > to
+    print "use Rattle.told.proofs.Says.{says_own}" > to
     print "use Rattle.call.specs.declared.query.Query.{Query}" > to
     print "use Rattle.call.specs.declared.query.Query.TheVariants as query" > to
     print "use Rattle.ask.specs.Ask.{asked_of}" > to
     print "" > to
     print "module _ (s : Cgb) where" > to
     print "  pub asked_said : (q : Query) → asked_of s q ≡ saying (state_refusal s) (asked_of s q).values" > to
-    print "  unfolding asked_of " definitions_of() > to
+    print "  unfolding asked_of query_said" > to
     for (i = 1; i <= queries; i++) {
         k = query[i]
         print "  asked_said query." variant[k] " = says_own _ _ _ (" said_by(k) ")" > to
@@ -161,55 +166,26 @@ function kind_code(    i, k) {
     print "use call::PlainCall;" > to
     print "use call::query::Query;" > to
     print "" > to
-    print "#[derive(Clone, Copy)]" > to
-    print "pub enum CodedPlain {" > to
-    print "    Plain(PlainCall)," > to
-    print "    Unknown," > to
-    print "}" > to
-    print "" > to
-    print "#[derive(Clone, Copy)]" > to
-    print "pub enum CodedQuery {" > to
-    print "    Query(Query)," > to
-    print "    Unknown," > to
-    print "}" > to
-    print "" > to
     print "#[tactic(auto, unfolding(crate::specs::Kind::query_kind))]" > to
-    print "fn query(kind: u8) -> CodedQuery" > to
+    print "fn query(kind: u8) -> Option<Query>" > to
     print "    ensures { result ≡ query_kind kind }" > to
     print "{" > to
     print "    match kind {" > to
-    for (i = 1; i <= queries; i++) print "        " kind[query[i]] " => CodedQuery::Query(Query::" variant[query[i]] ")," > to
-    print "        _ => CodedQuery::Unknown," > to
+    for (i = 1; i <= queries; i++) print "        " kind[query[i]] " => Some(Query::" variant[query[i]] ")," > to
+    print "        _ => None," > to
     print "    }" > to
     print "}" > to
     print "" > to
-    print "fn asked(kind: u8) -> CodedPlain" > to
-    print "    ensures { result ≡ query_of (query_kind kind) }" > to
-    print "{" > to
-    print "    let coded = query(kind);" > to
-    print "    let CodedQuery::Query(q) = coded else {" > to
-    print "        return CodedPlain::Unknown;" > to
-    print "    };" > to
-    print "    CodedPlain::Plain(PlainCall::Query(q))" > to
-    print "}" > to
-    print "" > to
     print "#[tactic(auto, unfolding(crate::specs::Kind::plain_of))]" > to
-    print "pub fn plain(bytes: [u8; 16]) -> CodedPlain" > to
+    print "pub fn plain(bytes: [u8; 16]) -> Option<PlainCall>" > to
     print "    ensures { result ≡ plain_of bytes }" > to
     print "{" > to
-    print "    let kind = bytes[0];" > to
-    print "    match kind {" > to
+    print "    match bytes[0] {" > to
     for (k = 1; k <= calls; k++) {
         if (!plain(k)) continue
-        if (reader[k] == "") print "        " kind[k] " => CodedPlain::Plain(PlainCall::" variant[k] ")," > to
-        else {
-            print "        " kind[k] " => {" > to
-            print "            let input = input::" reader[k] "(bytes);" > to
-            print "            CodedPlain::Plain(PlainCall::" variant[k] "(input))" > to
-            print "        }" > to
-        }
+        print "        " kind[k] " => Some(PlainCall::" variant[k] (reader[k] == "" ? "" : "(input::" reader[k] "(bytes))") ")," > to
     }
-    print "        _ => asked(kind)," > to
+    print "        kind => query(kind).map(PlainCall::Query)," > to
     print "    }" > to
     print "}" > to
     close(to)
@@ -220,37 +196,35 @@ function plain(k) { return !asks[k] && !slices[k] }
 function kind_spec(    i, k, last, names, seen) {
     folder("crates/record/specs/Kind.antt"); out("crates/record/specs/Kind.antt")
     print "-- The kinds of the calls that are lent no memory: byte 0 of a record. Written by tools/calls from calls.txt." > to
-    print "use Rattle.std.specs.Prelude.{ℕ, List, [], ◌∷◌}" > to
+    print "use Rattle.std.specs.Prelude.{ℕ, Option, Some, None, List, [], ◌∷◌}" > to
     print "use Rattle.arithmetic.specs.Number.{byte_at}" > to
     print "use Rattle.table.specs.Table.{Entry, ◌⟼◌, look}" > to
+    print "use Rattle.call.specs.declared.PlainCall.{PlainCall}" > to
     print "use Rattle.call.specs.declared.PlainCall.TheVariants as plain" > to
+    print "use Rattle.call.specs.declared.query.Query.{Query}" > to
     print "use Rattle.call.specs.declared.query.Query.TheVariants as query" > to
     for (k = 1; k <= calls; k++) if (plain(k) && reader[k] != "" && !(reader[k] in seen)) { seen[reader[k]]; names = names ", " reader[k] "_of" }
     print "use Rattle.record.specs.Input.{" substr(names, 3) "}" > to
-    print "use Rattle.record.specs.declared.kind.CodedPlain.{CodedPlain}" > to
-    print "use Rattle.record.specs.declared.kind.CodedPlain.TheVariants.{Plain, Unknown}" > to
-    print "use Rattle.record.specs.declared.kind.CodedQuery.{CodedQuery}" > to
-    print "use Rattle.record.specs.declared.kind.CodedQuery.TheVariants as coded" > to
     print "" > to
-    print "abbrev pub query_kinds : List (Entry CodedQuery)" > to
+    print "abbrev pub query_kinds : List (Entry (Option Query))" > to
     print "query_kinds =" > to
-    for (i = 1; i <= queries; i++) print "    (" kind[query[i]] " ⟼ coded.Query query." variant[query[i]] ")" (i < queries ? " ∷" : " ∷ []") > to
+    for (i = 1; i <= queries; i++) print "    (" kind[query[i]] " ⟼ Some query." variant[query[i]] ")" (i < queries ? " ∷" : " ∷ []") > to
     print "" > to
-    print "unfoldable pub query_kind : ℕ → CodedQuery" > to
-    print "query_kind kind = look query_kinds coded.Unknown kind" > to
+    print "unfoldable pub query_kind : ℕ → Option Query" > to
+    print "query_kind kind = look query_kinds None kind" > to
     print "" > to
-    print "abbrev pub query_of : CodedQuery → CodedPlain" > to
-    print "query_of (coded.Query q) = Plain (plain.Query q)" > to
-    print "query_of coded.Unknown = Unknown" > to
+    print "abbrev pub query_of : Option Query → Option PlainCall" > to
+    print "query_of (Some q) = Some (plain.Query q)" > to
+    print "query_of None = None" > to
     print "" > to
-    print "abbrev pub plain_kinds : List ℕ → List (Entry CodedPlain)" > to
+    print "abbrev pub plain_kinds : List ℕ → List (Entry (Option PlainCall))" > to
     print "plain_kinds bytes =" > to
     for (k = 1; k <= calls; k++) if (plain(k)) last = k
     for (k = 1; k <= calls; k++) if (plain(k)) {
-        print "    (" kind[k] " ⟼ Plain " (reader[k] == "" ? "plain." variant[k] : "(plain." variant[k] " (" reader[k] "_of bytes))") ")" (k < last ? " ∷" : " ∷ []") > to
+        print "    (" kind[k] " ⟼ Some " (reader[k] == "" ? "plain." variant[k] : "(plain." variant[k] " (" reader[k] "_of bytes))") ")" (k < last ? " ∷" : " ∷ []") > to
     }
     print "" > to
-    print "unfoldable pub plain_of : List ℕ → CodedPlain" > to
+    print "unfoldable pub plain_of : List ℕ → Option PlainCall" > to
     print "plain_of bytes = look (plain_kinds bytes) (query_of (query_kind (byte_at bytes 0))) (byte_at bytes 0)" > to
     close(to)
 }
@@ -290,9 +264,10 @@ function answered_spec(    i, k, n, list, names) {
     out("crates/ledger/specs/Answered.antt")
     print "-- What each query may answer at the state s, by its own contract. Written by tools/calls from calls.txt." > to
     print "use Rattle.console.specs.declared.Cgb.{Cgb}" > to
-    uses("Said " answers_of("_says"))
-    n = split(answers_of(""), list, " ")
-    for (i = 1; i <= n; i++) print "use Rattle.answers.specs.declared." answer_type(list[i]) ".{" answer_type(list[i]) "}" > to
+    print "use Rattle.std.specs.Prelude.{ℕ, Bool, Result}" > to
+    uses("Said says " answers_of("_values"))
+    given_uses()
+    print "use Rattle.console.specs.declared.refusal.Refusal.{Refusal}" > to
     print "use Rattle.call.specs.declared.query.Query.{Query}" > to
     print "use Rattle.call.specs.declared.query.Query.TheVariants as query" > to
     print "use Rattle.ledger.specs.Function.{Gives}" > to
@@ -303,7 +278,7 @@ function answered_spec(    i, k, n, list, names) {
     for (i = 1; i <= queries; i++) {
         k = query[i]
         print "  by_" fn[k] " :" > to
-        print "      (r : " answer_type(answer[k]) ") → Gives " fn[k] " tt (s, tt) r → Answered s query." variant[k] " (" answer[k] "_says r)" > to
+        print "      (r : Result " given(answer[k]) " Refusal) → Gives " fn[k] " tt (s, tt) r → Answered s query." variant[k] " (says " answer[k] "_values r)" > to
     }
     close(to)
 }
@@ -314,10 +289,8 @@ function answered_proof(    i, k, n, list) {
     print "-- calls.txt." > to
     print "use mathlib.Core.Path.{◌≡◌, refl, ap}" > to
     print "use Rattle.console.specs.declared.Cgb.{Cgb}" > to
-    uses("Said state_refusal query_said " answers_of("_says") " " definitions_of() values_of())
-    n = split(answers_of(""), list, " ")
-    refused_uses()
-    print "use Rattle.told.proofs.Says.{says_number}" > to
+    uses("Said says asked " answers_of("_values") values_of())
+    print "use Rattle.answers.proofs.Queries.{asked_told}" > to
     print "use Rattle.ask.specs.Ask.{asked_of}" > to
     print "use Rattle.call.specs.declared.query.Query.{Query}" > to
     print "use Rattle.call.specs.declared.query.Query.TheVariants as query" > to
@@ -326,11 +299,11 @@ function answered_proof(    i, k, n, list) {
     print "" > to
     print "pub answered_is : {s : Cgb} {q : Query} {said : Said} → Answered s q said → said ≡ asked_of s q" > to
     print "unfolding asked_of" > to
-    for (i = 1; i <= queries; i++) { k = query[i]; print "answered_is (by.by_" fn[k] " r m) = ap " answer[k] "_says m.told.is" > to }
+    for (i = 1; i <= queries; i++) { k = query[i]; print "answered_is (by.by_" fn[k] " r m) = ap (says " answer[k] "_values) m.told.is" > to }
     print "" > to
     print "module _ (s : Cgb) where" > to
     print "  pub some_answer : (q : Query) → Answered s q (asked_of s q)" > to
-    print "  unfolding asked_of query_said " definitions_of() > to
+    print "  unfolding asked_of" > to
     for (i = 1; i <= queries; i++) {
         k = query[i]
         print "  some_answer query." variant[k] " =" > to

@@ -1,47 +1,25 @@
 -- The papers' number and values for each case of each answer ("If an answer is an enum, the promises use a definition
 -- that states this paper's number and values for each of its cases").
-use Rattle.std.specs.Prelude.{ℕ, ◌≡◌, Bool, false, cond, List, [], ◌∷◌, eqb}
-use Rattle.console.specs.Reached.{unreached}
-use Rattle.console.specs.Refusals.{◌⇒◌, first_of, answered}
+use Rattle.std.specs.Prelude.{ℕ, ◌≡◌, Bool, false, cond, List, [], ◌∷◌, get_or, Option, Some, None, Result, Ok, Err}
+use Rattle.console.specs.Refusals.{refusal_number, number_of, answered, kept}
 use Rattle.console.specs.declared.Cgb.{Cgb}
 use Rattle.console.specs.declared.VramDmaClaim.{VramDmaClaim}
+use Rattle.console.specs.declared.refusal.Refusal.{Refusal}
+use Rattle.cut.specs.declared.SwitchOutcome.{SwitchOutcome}
+use Rattle.cut.specs.declared.SwitchOutcome.TheVariants as switch
 use Rattle.transfer.specs.declared.VramDmaStatus.{VramDmaStatus}
 use Rattle.transfer.specs.declared.VramDmaStatus.TheVariants as dma
+use Rattle.transfer.specs.declared.pair.BytePair.{BytePair}
 use Rattle.transfer.specs.declared.pair.Cause.{Cause}
 use Rattle.transfer.specs.declared.pair.Cause.TheVariants.{GoingOn, CountedOut, Carried}
-use Rattle.transfer.specs.declared.pair.Causes.{Causes}
-use Rattle.answers.specs.declared.ByteAnswer.{ByteAnswer}
-use Rattle.answers.specs.declared.ByteAnswer.TheVariants as byte
-use Rattle.answers.specs.declared.DoneAnswer.{DoneAnswer}
-use Rattle.answers.specs.declared.DoneAnswer.TheVariants as done
-use Rattle.answers.specs.declared.ClaimAnswer.{ClaimAnswer}
-use Rattle.answers.specs.declared.ClaimAnswer.TheVariants as claim
-use Rattle.answers.specs.declared.FlagAnswer.{FlagAnswer}
-use Rattle.answers.specs.declared.FlagAnswer.TheVariants as flag
-use Rattle.answers.specs.declared.StatusAnswer.{StatusAnswer}
-use Rattle.answers.specs.declared.StatusAnswer.TheVariants as status
-use Rattle.answers.specs.declared.TallyAnswer.{TallyAnswer}
-use Rattle.answers.specs.declared.TallyAnswer.TheVariants as tally
-use Rattle.answers.specs.declared.PairAnswer.{PairAnswer}
-use Rattle.answers.specs.declared.PairAnswer.TheVariants as pair
-use Rattle.answers.specs.declared.SwitchAnswer.{SwitchAnswer}
-use Rattle.answers.specs.declared.SwitchAnswer.TheVariants as switch
-use Rattle.answers.specs.declared.ArbitrationAnswer.{ArbitrationAnswer}
-use Rattle.answers.specs.declared.ArbitrationAnswer.TheVariants as arbitration
-use Rattle.answers.specs.declared.BusAnswer.{BusAnswer}
-use Rattle.answers.specs.declared.BusAnswer.TheVariants as moved
-use Rattle.answers.specs.declared.ConflictAnswer.{ConflictAnswer}
-use Rattle.answers.specs.declared.ConflictAnswer.TheVariants as conflict
-use Rattle.answers.specs.declared.CycleAnswer.{CycleAnswer}
-use Rattle.answers.specs.declared.CycleAnswer.TheVariants as cycle
-use Rattle.answers.specs.declared.ObjectDmaAnswer.{ObjectDmaAnswer}
-use Rattle.answers.specs.declared.ObjectDmaAnswer.TheVariants as object
-use Rattle.answers.specs.declared.Done.{Done}
-use Rattle.answers.specs.declared.Flagged.{Flagged}
-use Rattle.answers.specs.declared.Handed.{Handed}
-use Rattle.answers.specs.declared.Fell.{Fell}
-use Rattle.answers.specs.declared.Switched.{Switched}
-use Rattle.answers.specs.declared.Arbitrated.{Arbitrated}
+use Rattle.bus.specs.declared.arbitration.Arbitration.{Arbitration}
+use Rattle.bus.specs.declared.arbitration.Arbitration.TheVariants as arbitration
+use Rattle.answers.specs.declared.Tally.{Tally}
+use Rattle.answers.specs.declared.Moved.{Moved}
+use Rattle.answers.specs.declared.Cycle.{Cycle}
+use Rattle.answers.specs.declared.Cycle.TheVariants as cycle
+use Rattle.answers.specs.declared.ObjectDmaTally.{ObjectDmaTally}
+use Rattle.answers.specs.declared.Outcome.{Outcome}
 use Rattle.answers.specs.declared.BusOutcome.{BusOutcome}
 use Rattle.answers.specs.declared.Cycled.{Cycled}
 
@@ -56,49 +34,47 @@ declined n = record { number = n; values = [] }
 abbrev pub accepted : List ℕ → Said
 accepted values = record { number = 0; values = values }
 
--- a call whose number is n, or which gives these values where it has none
-abbrev pub saying : ℕ → List ℕ → Said
-saying n values = record { number = n; values = cond (eqb n 0) values [] }
+-- a call that is declined, or which gives these values
+abbrev pub saying : Option Refusal → List ℕ → Said
+saying k values = record { number = number_of k; values = kept k [] values }
+
+-- an answer: its number, or the values of what it gives
+abbrev pub says : {A : Type 0} → (A → List ℕ) → Result A Refusal → Said
+says values (Ok x) = accepted (values x)
+says values (Err r) = declined (refusal_number r)
+
+-- an answer's values in four places, the spare ones 0
+abbrev pub four_of : List ℕ → List ℕ
+four_of values = get_or values 0 0 ∷ get_or values 1 0 ∷ get_or values 2 0 ∷ get_or values 3 0 ∷ []
 
 -- a flag as a value
 abbrev pub bit_of : Bool → ℕ
 bit_of b = cond b 1 0
 
-abbrev pub done_says : DoneAnswer → Said
-done_says done.Done = accepted []
-done_says (done.Refused n) = declined n
+-- ---- the values of each answer, in their order
 
-abbrev pub byte_says : ByteAnswer → Said
-byte_says (byte.Byte value) = accepted (value ∷ [])
-byte_says (byte.Refused n) = declined n
+abbrev pub done_values : Unit {0} → List ℕ
+done_values u = []
 
-abbrev pub flag_says : FlagAnswer → Said
-flag_says (flag.Flag value) = accepted (bit_of value ∷ [])
-flag_says (flag.Refused n) = declined n
+abbrev pub byte_values : ℕ → List ℕ
+byte_values value = value ∷ []
 
-abbrev pub claim_says : ClaimAnswer → Said
-claim_says (claim.Claim committed standing) = accepted (bit_of committed ∷ bit_of standing ∷ [])
-claim_says (claim.Refused n) = declined n
+abbrev pub flag_values : Bool → List ℕ
+flag_values value = bit_of value ∷ []
 
--- whether an answer tells of a commit
-abbrev pub tells_commit : ClaimAnswer → Bool
-tells_commit (claim.Claim committed standing) = committed
-tells_commit (claim.Refused n) = false
+-- whether it committed, and whether the claim stands
+abbrev pub claim_values : VramDmaClaim → List ℕ
+claim_values c = bit_of c.committed ∷ bit_of c.standing ∷ []
 
 -- source, destination, left and escape flag
-abbrev pub tally_says : TallyAnswer → Said
-tally_says (tally.Tally source dest left escape) = accepted (source ∷ dest ∷ left ∷ bit_of escape ∷ [])
-tally_says (tally.Refused n) = declined n
+abbrev pub tally_values : Tally → List ℕ
+tally_values t = t.source ∷ t.dest ∷ t.remaining ∷ bit_of t.escape_byte ∷ []
 
 -- 0 Idle; 1 General, with what is left; 2 HBlank, with what is left, the source and where the next byte lands
-abbrev pub mode_says : VramDmaStatus → List ℕ
-mode_says dma.Idle = 0 ∷ []
-mode_says (dma.General left) = 1 ∷ left ∷ []
-mode_says (dma.HBlank left source dest) = 2 ∷ left ∷ source ∷ dest ∷ []
-
-abbrev pub status_says : StatusAnswer → Said
-status_says (status.Status s) = accepted (mode_says s)
-status_says (status.Refused n) = declined n
+abbrev pub status_values : VramDmaStatus → List ℕ
+status_values dma.Idle = 0 ∷ []
+status_values (dma.General left) = 1 ∷ left ∷ []
+status_values (dma.HBlank left source dest) = 2 ∷ left ∷ source ∷ dest ∷ []
 
 -- document 02, A3: how the run goes on after a pair, "0, 1 or 2"
 abbrev pub cause_number : Cause → ℕ
@@ -110,107 +86,67 @@ abbrev pub cause_numbers : List Cause → List ℕ
 cause_numbers [] = []
 cause_numbers (k ∷ ks) = cause_number k ∷ cause_numbers ks
 
--- those of a bus call's two places
-abbrev pub causes_say : Causes → List ℕ
-causes_say c = cause_number c.first ∷ cause_number c.second ∷ []
-
 -- 0 for none; else 1, the source, the destination and the cause
-abbrev pub pair_says : PairAnswer → Said
-pair_says (pair.Pair p k) = accepted (1 ∷ p.source ∷ p.dest ∷ cause_number k ∷ [])
-pair_says pair.None = accepted (0 ∷ [])
-pair_says (pair.Refused n) = declined n
+abbrev pub pair_values : Option (BytePair × Cause) → List ℕ
+pair_values (Some (p, k)) = 1 ∷ p.source ∷ p.dest ∷ cause_number k ∷ []
+pair_values None = 0 ∷ []
 
 -- 0 none, 1 discarded, 2 cut
-abbrev pub switch_says : SwitchAnswer → Said
-switch_says switch.None = accepted (0 ∷ [])
-switch_says switch.Discarded = accepted (1 ∷ [])
-switch_says switch.Cut = accepted (2 ∷ [])
-switch_says (switch.Refused n) = declined n
+abbrev pub switch_values : SwitchOutcome → List ℕ
+switch_values switch.None = 0 ∷ []
+switch_values switch.Discarded = 1 ∷ []
+switch_values switch.Cut = 2 ∷ []
 
 -- 0 clear, 1 contended, 2 stall
-abbrev pub arbitration_says : ArbitrationAnswer → Said
-arbitration_says arbitration.Clear = accepted (0 ∷ [])
-arbitration_says arbitration.Contended = accepted (1 ∷ [])
-arbitration_says arbitration.Stall = accepted (2 ∷ [])
-arbitration_says (arbitration.Refused n) = declined n
+abbrev pub arbitration_values : Arbitration → List ℕ
+arbitration_values arbitration.Clear = 0 ∷ []
+arbitration_values arbitration.Contended = 1 ∷ []
+arbitration_values arbitration.Stall = 2 ∷ []
 
 -- how many pairs moved, and whether a set-up cell was used; the pairs, their causes and bytes stand beside it
-abbrev pub bus_says : BusAnswer → Said
-bus_says (moved.Moved count setup) = accepted (count ∷ bit_of setup ∷ [])
-bus_says (moved.Refused n) = declined n
+abbrev pub moved_values : Moved → List ℕ
+moved_values m = m.count ∷ bit_of m.setup_cell ∷ []
 
 -- 0 for none; else 1 and the source
-abbrev pub conflict_says : ConflictAnswer → Said
-conflict_says (conflict.Source source) = accepted (1 ∷ source ∷ [])
-conflict_says conflict.None = accepted (0 ∷ [])
-conflict_says (conflict.Refused n) = declined n
+abbrev pub conflict_values : Option ℕ → List ℕ
+conflict_values (Some source) = 1 ∷ source ∷ []
+conflict_values None = 0 ∷ []
 
 -- 0 nothing; 1 moved or 2 passed over, and the source; the byte stands beside it (document 02, A1)
-abbrev pub cycle_says : CycleAnswer → Said
-cycle_says cycle.Nothing = accepted (0 ∷ [])
-cycle_says (cycle.Moved source) = accepted (1 ∷ source ∷ [])
-cycle_says (cycle.PassedOver source) = accepted (2 ∷ source ∷ [])
-cycle_says (cycle.Refused n) = declined n
+abbrev pub cycle_values : Cycle → List ℕ
+cycle_values cycle.Nothing = 0 ∷ []
+cycle_values (cycle.Moved source) = 1 ∷ source ∷ []
+cycle_values (cycle.PassedOver source) = 2 ∷ source ∷ []
 
 -- whether object DMA runs, the bytes counted, the page
-abbrev pub object_dma_says : ObjectDmaAnswer → Said
-object_dma_says (object.ObjectDma runs counted page) = accepted (bit_of runs ∷ counted ∷ page ∷ [])
-object_dma_says (object.Refused n) = declined n
+abbrev pub object_dma_values : ObjectDmaTally → List ℕ
+object_dma_values o = bit_of o.runs ∷ o.counted ∷ o.page ∷ []
+
+-- whether an answer tells of a commit
+abbrev pub tells_commit : Result VramDmaClaim Refusal → Bool
+tells_commit (Ok c) = c.committed
+tells_commit (Err r) = false
 
 -- where the state stands beside the answer
-abbrev pub done_state_says : Done → Said
-done_state_says r = done_says r.answer
-
-abbrev pub flagged_says : Flagged → Said
-flagged_says r = flag_says r.answer
-
-abbrev pub handed_says : Handed → Said
-handed_says r = pair_says r.answer
-
--- a fall says whether it committed, and whether the claim stands
-abbrev pub fell_says : Fell → Said
-fell_says r = claim_says r.answer
-
-abbrev pub switched_says : Switched → Said
-switched_says r = switch_says r.answer
-
-abbrev pub arbitrated_says : Arbitrated → Said
-arbitrated_says r = arbitration_says r.answer
+abbrev pub outcome_says : {A : Type 0} → (A → List ℕ) → Outcome A → Said
+outcome_says values r = says values r.answer
 
 abbrev pub bus_outcome_says : BusOutcome → Said
-bus_outcome_says r = bus_says r.answer
+bus_outcome_says r = says moved_values r.answer
 
 abbrev pub cycled_says : Cycled → Said
-cycled_says r = cycle_says r.answer
-
--- the state after a call: as before where it has a number
-abbrev pub kept : ℕ → Cgb → Cgb → Cgb
-kept number before after = cond (eqb number 0) after before
+cycled_says r = says cycle_values r.answer
 
 -- what a call promises of its answer r: it is this one, and says this number and these values
 pub record Answers {A : Type 0} (told : A → Said) (answer : A) (said : Said) (r : A) : Type 0 where
   pub is : r ≡ answer
   pub says : told r ≡ said
 
--- the number of a call that is declined by 7 alone, or 0
-unfoldable pub state_refusal : Cgb → ℕ
-state_refusal s = first_of ((unreached s ⇒ 7) ∷ [])
+-- the outcome of a call that is declined, or gives this value and leaves this state
+abbrev pub outcome : {A : Type 0} → Option Refusal → Cgb → A → Cgb → Outcome A
+outcome k before value after = record { answer = answered k value; state = kept k before after }
 
--- the answer with a number, or with the byte where there is none
-abbrev pub byte_answer : ℕ → ℕ → ByteAnswer
-byte_answer number value = answered number byte.Refused (byte.Byte value)
-
--- the answer with a number, or done where there is none
-abbrev pub done_answer : ℕ → DoneAnswer
-done_answer number = answered number done.Refused done.Done
-
--- the answer with a number, or with the flag where there is none
-abbrev pub flag_answer : ℕ → Bool → FlagAnswer
-flag_answer number value = answered number flag.Refused (flag.Flag value)
-
--- a claim as an answer, and the answer with a number, or with the claim where there is none
-abbrev pub claimed : VramDmaClaim → ClaimAnswer
-claimed c = claim.Claim c.committed c.standing
-
-abbrev pub claim_answer : ℕ → VramDmaClaim → ClaimAnswer
-claim_answer number c = answered number claim.Refused (claimed c)
+-- the promises of such a call, of one that is lent nothing
+abbrev pub AnswersOutcome : {A : Type 0} → (A → List ℕ) → Option Refusal → Cgb → A → Cgb → Outcome A → Type 0
+AnswersOutcome values k before value after r =
+    Answers (outcome_says values) (outcome k before value after) (saying k (values value)) r

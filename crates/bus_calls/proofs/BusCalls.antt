@@ -3,38 +3,45 @@ use Prim.Native.Nat.{ℕ}
 use mathlib.Core.Path.{◌≡◌, ap, ◌∙◌}
 use mathlib.Core.Bool.{true, false}
 use mathlib.Core.List.{List}
-use lib.Dec.{eqb}
+use Rattle.std.proofs.Common.{Option, Some, None, Result, Ok, Err}
 use Rattle.console.specs.Reached.{unreached}
 use Rattle.console.specs.Set.{with_vram_dma}
 use Rattle.console.specs.declared.Cgb.{Cgb}
+use Rattle.console.specs.declared.refusal.Refusal.{Refusal}
+use Rattle.console.specs.declared.refusal.Refusal.TheVariants.{State, Length}
 use Rattle.bus.specs.Commit.{bytes_of, first_two, run_of, Committed}
 use Rattle.bus.specs.declared.commit.BusInput.{BusInput}
 use Rattle.bus.specs.declared.commit.Run.{Run}
 use Rattle.memory.specs.Lengths.{wrong_lengths}
 use Rattle.bus_calls.specs.BusCall.{Lengths, lengths_of, bus_refusal, banks_of, refused_bus, AnswersBus}
 use Rattle.bus_calls.specs.BusCall.{bus_pairs, bus_causes, bus_answer, bus_state, bus_said, bus_bytes, bus_vram, bus_oam, bus_of}
-use Rattle.answers.specs.Answers.{cause_numbers, causes_say, bus_outcome_says}
-use Rattle.answers.specs.declared.BusAnswer.TheVariants.{Moved}
+use Rattle.answers.specs.Answers.{cause_numbers, bus_outcome_says}
 use Rattle.answers.specs.declared.BusOutcome.{BusOutcome}
 use Rattle.bus_calls.proofs.Says.{bus_told, causes_told}
 
 module _ (s : Cgb) (n : Lengths) where
-  pub refused_7 : unreached s ≡ true → bus_refusal s n ≡ 7
+  pub refused_7 : unreached s ≡ true → bus_refusal s n ≡ Some State
   unfolding bus_refusal
   refused_7 h = rw h
 
-  pub refused_2 : unreached s ≡ false → wrong_lengths n.cartridge n.wram n.vram n.oam ≡ true → bus_refusal s n ≡ 2
+  pub refused_2 : unreached s ≡ false → wrong_lengths n.cartridge n.wram n.vram n.oam ≡ true → bus_refusal s n ≡ Some Length
   unfolding bus_refusal
   refused_2 h w = rw (h, w)
 
-  pub accepted : unreached s ≡ false → wrong_lengths n.cartridge n.wram n.vram n.oam ≡ false → bus_refusal s n ≡ 0
+  pub accepted : unreached s ≡ false → wrong_lengths n.cartridge n.wram n.vram n.oam ≡ false → bus_refusal s n ≡ None
   unfolding bus_refusal
   accepted h w = rw (h, w)
 
 -- the call's result from its part's
 abbrev moved_of : Cgb → Run → BusOutcome
 moved_of s r =
-    record { answer = Moved r.count r.setup_cell; pairs = r.pairs; causes = r.causes; bytes = r.bytes; state = with_vram_dma r.dma s }
+    record {
+      answer = Ok (record { count = r.count; setup_cell = r.setup_cell });
+      pairs = r.pairs;
+      causes = r.causes;
+      bytes = r.bytes;
+      state = with_vram_dma r.dma s;
+    }
 
 module _ (s : Cgb) (i : BusInput) (cartridge wram vram oam : List ℕ) where
   says :
@@ -43,25 +50,25 @@ module _ (s : Cgb) (i : BusInput) (cartridge wram vram oam : List ℕ) where
 
   says_causes :
       (r : BusOutcome) → r ≡ bus_of s i cartridge wram vram oam →
-      causes_say r.causes ≡ first_two 0 (cause_numbers (bus_causes s i (lengths_of cartridge wram vram oam)))
-  says_causes r is = ap (λ (x : BusOutcome). causes_say x.causes) is ∙ causes_told s i cartridge wram vram oam
+      cause_numbers r.causes ≡ first_two 0 (cause_numbers (bus_causes s i (lengths_of cartridge wram vram oam)))
+  says_causes r is = ap (λ (x : BusOutcome). cause_numbers x.causes) is ∙ causes_told s i cartridge wram vram oam
 
   pub bus_declined :
-      (r : BusOutcome) (k : ℕ) → bus_refusal s (lengths_of cartridge wram vram oam) ≡ k → eqb k 0 ≡ false → r ≡ refused_bus k s →
+      (r : BusOutcome) (k : Refusal) → bus_refusal s (lengths_of cartridge wram vram oam) ≡ Some k → r ≡ refused_bus k s →
       AnswersBus s i cartridge wram vram oam r vram oam
   unfolding bus_of bus_pairs bus_causes bus_answer bus_state bus_bytes bus_vram bus_oam bytes_of
-  bus_declined r k refused some is =
-      let result : r ≡ bus_of s i cartridge wram vram oam = is ∙ rw (refused, some) in
+  bus_declined r k refused is =
+      let result : r ≡ bus_of s i cartridge wram vram oam = is ∙ rw refused in
       record {
         result = result;
         says = says r result;
         says_causes = says_causes r result;
-        stored = rw (refused, some);
-        deposit = rw (refused, some);
+        stored = rw refused;
+        deposit = rw refused;
       }
 
   pub bus_moved :
-      (run : Run) (last_vram last_oam : List ℕ) → bus_refusal s (lengths_of cartridge wram vram oam) ≡ 0 →
+      (run : Run) (last_vram last_oam : List ℕ) → bus_refusal s (lengths_of cartridge wram vram oam) ≡ None →
       Committed (banks_of s) i s.vram_dma cartridge wram vram oam run last_vram last_oam →
       AnswersBus s i cartridge wram vram oam (moved_of s run) last_vram last_oam
   unfolding bus_of bus_pairs bus_causes bus_answer bus_state bus_bytes bus_vram bus_oam run_of

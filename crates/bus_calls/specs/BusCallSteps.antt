@@ -1,7 +1,8 @@
 -- What is shown of the order in which a bus call is declined (document 01: "7 first wherever a state is given", and 2).
-use Rattle.std.specs.Prelude.{◌≡◌, true, false}
+use Rattle.std.specs.Prelude.{◌≡◌, true, false, Some, None}
 use Rattle.console.specs.Reached.{unreached}
 use Rattle.console.specs.declared.Cgb.{Cgb}
+use Rattle.console.specs.declared.refusal.Refusal.TheVariants.{State, Length}
 use Rattle.bus_calls.specs.BusCall.{Lengths, bus_refusal}
 
 -- "cartridge 40,960, WRAM 32,768, VRAM 16,384, OAM 160"
@@ -12,6 +13,6 @@ pub record WholeSlices (n : Lengths) : Type 0 where
   pub oam : n.oam ≡ 160
 
 pub record BusRefusals (s : Cgb) (n : Lengths) : Type 0 where
-  pub first_7 : unreached s ≡ true → bus_refusal s n ≡ 7
-  pub then_2 : unreached s ≡ false → (WholeSlices n → ⊥) → bus_refusal s n ≡ 2
-  pub accepted : unreached s ≡ false → WholeSlices n → bus_refusal s n ≡ 0
+  pub first_7 : unreached s ≡ true → bus_refusal s n ≡ Some State
+  pub then_2 : unreached s ≡ false → (WholeSlices n → ⊥) → bus_refusal s n ≡ Some Length
+  pub accepted : unreached s ≡ false → WholeSlices n → bus_refusal s n ≡ None

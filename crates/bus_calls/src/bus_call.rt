@@ -2,23 +2,21 @@
 ghost use Rattle.bus_calls.specs.BusCall.{refused_bus, AnswersBus};
 ghost use Rattle.std.specs.Prelude.{◌≡◌};
 
-use answers::{BusAnswer, BusOutcome};
+use answers::{BusOutcome, Moved};
 use bus::commit::{Banks, BusInput};
-use console::{Cgb, refusal};
-use transfer::pair::{BytePair, Cause, Causes};
+use console::Cgb;
+use console::refusal::Refusal;
+use transfer::pair::{BytePair, Cause};
 
-fn refused(state: Cgb, number: u8) -> BusOutcome
-    ensures { result ≡ refused_bus number state }
+fn refused(state: Cgb, refusal: Refusal) -> BusOutcome
+    ensures { result ≡ refused_bus refusal state }
 {
     BusOutcome {
-        answer: BusAnswer::Refused(number),
+        answer: Err(refusal),
         pairs: [BytePair { source: 0, dest: 0 }; 2],
-        causes: Causes {
-            first: Cause::GoingOn,
-            second: Cause::GoingOn,
-        },
+        causes: [Cause::GoingOn; 2],
         bytes: [0u8; 2],
-        state: rebuild::cgb(state),
+        state,
     }
 }
 
@@ -34,10 +32,10 @@ pub fn vram_dma_commit_bytes(
         result vram.new oam.new }
 {
     if state.unreached() {
-        return refused(state, refusal::STATE);
+        return refused(state, Refusal::State);
     }
     if memory::wrong_lengths(cartridge.len(), wram.len(), vram.len(), oam.len()) {
-        return refused(state, refusal::LENGTH);
+        return refused(state, Refusal::Length);
     }
     let banks = Banks {
         svbk: state.svbk,
@@ -47,15 +45,17 @@ pub fn vram_dma_commit_bytes(
     let pairs = run.pairs;
     let causes = run.causes;
     let bytes = run.bytes;
-    let after = rebuild::with_vram_dma(state, run.dma);
     BusOutcome {
-        answer: BusAnswer::Moved {
+        answer: Ok(Moved {
             count: run.count,
             setup_cell: run.setup_cell,
+        }),
+        pairs,
+        causes,
+        bytes,
+        state: Cgb {
+            vram_dma: run.dma,
+            ..state
         },
-        pairs: pairs,
-        causes: causes,
-        bytes: bytes,
-        state: after,
     }
 }

@@ -1,47 +1,28 @@
 // Arbitration and the bus call with object DMA's state from inside (document 02, A1): the calls of document 01, told by the state what a
 // caller tells them.
-ghost use Rattle.answers.specs.Answers.{Answers, arbitrated_says};
+ghost use Rattle.answers.specs.Answers.{Answers, outcome_says, arbitration_values};
 ghost use Rattle.bus_calls.specs.Bus.{arbitration_call_of, arbitration_said};
 ghost use Rattle.bus_calls.specs.BusCall.{AnswersBus};
 ghost use Rattle.bus_calls.specs.Inside.{inside_arbitration, inside_bus};
 
 use crate::bus_call::vram_dma_commit_bytes;
-use crate::shared_bus::told;
-use answers::{Arbitrated, ArbitrationAnswer, BusOutcome};
-use bus::arbitration::ArbitrationInput;
+use crate::shared_bus::vram_dma_arbitrate_oam;
+use answers::{BusOutcome, Outcome};
+use bus::arbitration::{Arbitration, ArbitrationInput};
 use bus::commit::BusInput;
 use bus::hold::HoldInput;
-use console::{Cgb, refusal};
+use console::Cgb;
 
-// Not by a call of the other form: a state that two calls hand to one function goes through memory, and a record of the replay took a
-// third more instructions.
-#[tactic(auto, unfolding(crate::specs::Bus::arbitration_call_of))]
-pub fn vram_dma_arbitrate_inside(state: Cgb, input: HoldInput) -> Arbitrated
-    ensures { Answers arbitrated_says (arbitration_call_of state (inside_arbitration state input))
+pub fn vram_dma_arbitrate_inside(state: Cgb, input: HoldInput) -> Outcome<Arbitration>
+    ensures { Answers (outcome_says arbitration_values) (arbitration_call_of state (inside_arbitration state input))
         (arbitration_said state (inside_arbitration state input)) result }
 {
-    if state.unreached() {
-        return Arbitrated {
-            answer: ArbitrationAnswer::Refused(refusal::STATE),
-            state: state,
-        };
-    }
-    let runs = object_dma::runs(state.object_dma);
     let given = ArbitrationInput {
         hold: input.hold,
         suspended: input.suspended,
-        oam_transferring: runs,
+        oam_transferring: object_dma::runs(state.object_dma),
     };
-    let arbitrated = oam_arbitration::arbitrate_oam_bus(state.vram_dma, state.double_speed, given);
-    let found = arbitrated.answer;
-    let answer = told(found);
-    let mut after = state;
-    after.vram_dma.oam.was_transferring = arbitrated.oam.was_transferring;
-    after.vram_dma.oam.contended = arbitrated.oam.contended;
-    Arbitrated {
-        answer: answer,
-        state: after,
-    }
+    vram_dma_arbitrate_oam(state, given)
 }
 
 pub fn vram_dma_commit_bytes_inside(

@@ -1,63 +1,33 @@
 // The shared bus: arbitration and the write conflict (lib.rs, `vram_dma_arbitrate_oam`,
 // `vram_dma_conflict_source`).
-ghost use Rattle.std.specs.Prelude.{◌≡◌};
-ghost use Rattle.answers.specs.Answers.{Answers, arbitrated_says, conflict_says};
-ghost use Rattle.bus_calls.specs.Bus.{arbitration_answer_of, conflict_answer_of, arbitration_call_of, arbitration_said, conflict_call_of, conflict_said};
+ghost use Rattle.answers.specs.Answers.{Answers, outcome_says, arbitration_values, conflict_values};
+ghost use Rattle.answers.specs.Queries.{Asked};
+ghost use Rattle.bus_calls.specs.Bus.{arbitration_call_of, arbitration_said, conflict_found};
 
-use answers::{Arbitrated, ArbitrationAnswer, ConflictAnswer};
+use answers::Outcome;
+use answers::decided::reached;
+use answers::query::asked;
 use bus::arbitration::{Arbitration, ArbitrationInput};
-use console::{Cgb, refusal};
-use transfer::Conflict;
+use console::Cgb;
+use console::refusal::Refusal;
+use console::vram_dma::VramDma;
 
-pub(crate) fn told(answer: Arbitration) -> ArbitrationAnswer
-    ensures { result ≡ arbitration_answer_of answer }
+#[tactic(auto, unfolding(crate::specs::Bus::arbitration_call_of, crate::specs::Bus::arbitration_said))]
+pub fn vram_dma_arbitrate_oam(state: Cgb, input: ArbitrationInput) -> Outcome<Arbitration>
+    ensures { Answers (outcome_says arbitration_values) (arbitration_call_of state input) (arbitration_said state input) result }
 {
-    match answer {
-        Arbitration::Clear => ArbitrationAnswer::Clear,
-        Arbitration::Contended => ArbitrationAnswer::Contended,
-        Arbitration::Stall => ArbitrationAnswer::Stall,
-    }
-}
-
-#[tactic(auto, unfolding(crate::specs::Bus::arbitration_call_of))]
-pub fn vram_dma_arbitrate_oam(state: Cgb, input: ArbitrationInput) -> Arbitrated
-    ensures { Answers arbitrated_says (arbitration_call_of state input) (arbitration_said state input) result }
-{
-    if state.unreached() {
-        return Arbitrated {
-            answer: ArbitrationAnswer::Refused(refusal::STATE),
-            state: state,
-        };
-    }
     let arbitrated = oam_arbitration::arbitrate_oam_bus(state.vram_dma, state.double_speed, input);
-    let found = arbitrated.answer;
-    let answer = told(found);
-    let mut after = state;
-    after.vram_dma.oam.was_transferring = arbitrated.oam.was_transferring;
-    after.vram_dma.oam.contended = arbitrated.oam.contended;
-    Arbitrated {
-        answer: answer,
-        state: after,
-    }
+    let vram_dma = VramDma {
+        oam: arbitrated.oam,
+        ..state.vram_dma
+    };
+    reached(state, arbitrated.answer, Cgb { vram_dma, ..state })
 }
 
-fn collides(found: Conflict) -> ConflictAnswer
-    ensures { result ≡ conflict_answer_of found }
+// The source of the byte that a read collides with. An address outside VRAM collides with nothing.
+pub fn vram_dma_conflict_source(state: Cgb, address: u16) -> Result<Option<u16>, Refusal>
+    ensures { Asked conflict_values state (conflict_found state address) result }
 {
-    match found {
-        Conflict::Source(source) => ConflictAnswer::Source(source),
-        Conflict::None => ConflictAnswer::None,
-    }
-}
-
-// An address outside VRAM collides with nothing.
-#[tactic(auto, unfolding(crate::specs::Bus::conflict_call_of))]
-pub fn vram_dma_conflict_source(state: Cgb, address: u16) -> ConflictAnswer
-    ensures { Answers conflict_says (conflict_call_of state address) (conflict_said state address) result }
-{
-    if state.unreached() {
-        return ConflictAnswer::Refused(refusal::STATE);
-    }
     let found = dma_status::write_conflict_source(state.vram_dma, state.double_speed, address);
-    collides(found)
+    asked(state, found)
 }

@@ -7,7 +7,7 @@ ghost use Rattle.std.specs.Prelude.{◌≡◌, not, eqb};
 ghost use Rattle.estimate.specs.Estimate.{estimated_bytes, estimated_cycles};
 ghost use Rattle.c_api.specs.Entry.{Entered, powered_on};
 
-use console::refusal;
+use console::refusal::Refusal;
 use record::answer;
 
 // The state at power-on; compat if not 0.
@@ -16,8 +16,7 @@ use record::answer;
 pub extern "C" fn cgb_power_on(state: &mut [u8; 248], compat: u8)
     ensures { state.new ≡ powered_on compat }
 {
-    let on = engine::power_on(compat != 0);
-    *state = codec::encode(on);
+    *state = codec::encode(engine::power_on(compat != 0));
 }
 
 // One call. The result is the refusal, or 0, and stands in front of the answer. State bytes that no state has
@@ -36,17 +35,14 @@ pub extern "C" fn cgb_perform(
         wram.old vram.old oam.old
         result state.new answer.new wram.new vram.new oam.new }
 {
-    let before = codec::decode(*state);
-    let unreadable = !before.valid;
-    if unreadable {
-        *answer = answer::refused(refusal::STATE);
-        return refusal::STATE;
-    }
-    let given = before.state;
-    let done = perform::perform_record(given, record::decode(*call), cartridge, wram, vram, oam);
-    let after = done.state;
+    let Some(before) = codec::decode(*state) else {
+        let number = u8::from(Refusal::State);
+        *answer = answer::refused(number);
+        return number;
+    };
+    let done = perform::perform_record(before, record::decode(*call), cartridge, wram, vram, oam);
     *answer = answer::encode(done);
-    *state = codec::encode(after);
+    *state = codec::encode(done.state);
     done.told.refusal
 }
 
@@ -56,8 +52,7 @@ pub extern "C" fn cgb_perform(
 pub extern "C" fn cgb_estimate_bytes(value: u8, destination: u16) -> u16
     ensures { result ≡ estimated_bytes value destination }
 {
-    let time = estimate::transfer_time(value, destination, false);
-    time.bytes
+    estimate::transfer_time(value, destination, false).bytes
 }
 
 // The M-cycles that they take; at double speed if not 0.
@@ -66,6 +61,5 @@ pub extern "C" fn cgb_estimate_bytes(value: u8, destination: u16) -> u16
 pub extern "C" fn cgb_estimate(value: u8, destination: u16, double_speed: u8) -> u16
     ensures { result ≡ estimated_cycles value destination (not (eqb double_speed 0)) }
 {
-    let time = estimate::transfer_time(value, destination, double_speed != 0);
-    time.m_cycles
+    estimate::transfer_time(value, destination, double_speed != 0).m_cycles
 }

@@ -2,16 +2,19 @@
 use Prim.Native.Nat.{ℕ, ◌+◌, ◌≤◌}
 use native.Mathlib.Omega.{arith}
 use mathlib.Core.Path.{◌≡◌, sym, subst, ◌∙◌}
-use mathlib.Core.Bool.{Bool, true, false, cond}
+use mathlib.Core.Bool.{true}
 use lib.Dec.{eqb}
+use Rattle.std.proofs.Common.{Option, Some, None}
 use borrow.Author.Tests.{eqb-true}
+use Rattle.console.specs.Reached.{state_refusal}
+use Rattle.console.specs.Refusals.{kept}
 use Rattle.console.specs.declared.Cgb.{Cgb}
+use Rattle.console.specs.declared.refusal.Refusal.{Refusal}
 use Rattle.console.specs.declared.vram_dma.VramDma.{VramDma}
 use Rattle.transfer.specs.Keeps.{KeepsMarks}
 use Rattle.bus.proofs.BusSteps.{bus_steps}
 use Rattle.fall_stages.specs.Once.{Between, Period, over, fall, other}
 use Rattle.fall_stages.proofs.Once as engine
-use Rattle.answers.specs.Answers.{state_refusal}
 use Rattle.fall_call.proofs.FallCallSteps.{fall_call_steps}
 use Rattle.bus_calls.specs.Bus.{arbitrated, arbitration_call_of}
 use Rattle.bus_calls.specs.BusCall.{bus_refusal, bus_state}
@@ -40,9 +43,9 @@ period (OnceCalls.other s t n between rest) = other s.vram_dma t.vram_dma n betw
 
 -- a call that keeps the state where it is declined
 module _ (s t : Cgb) where
-  either : (b : Bool) → CallsBetween s t → CallsBetween s (cond b t s)
-  either true between = between
-  either false between = record { taken = λ e. e; pend = λ e. e }
+  either : (k : Option Refusal) → CallsBetween s t → CallsBetween s (kept k s t)
+  either None between = between
+  either (Some r) between = record { taken = λ e. e; pend = λ e. e }
 
 -- what keeps the marks comes between
 of_marks : {d e : VramDma} → KeepsMarks d e → Between d e
@@ -52,15 +55,15 @@ between : (s : Cgb) → BetweenFalls s
 unfolding next_pair_of escape_drain_of lcd_call_of retired_call_of bus_state arbitration_call_of cycle_state
 between s =
     let calls = engine.other_calls s.vram_dma in
-    let passes = eqb (state_refusal s) 0 in
+    let passes = state_refusal s in
     record {
       pair = either s _ passes calls.pair;
       drain = either s _ passes calls.drain;
       lcd_off = either s _ passes calls.lcd_off;
       retired = either s _ passes calls.retired;
-      bus_call = λ i n. either s _ (eqb (bus_refusal s n) 0) (of_marks (bus_steps i s.vram_dma).marks);
+      bus_call = λ i n. either s _ (bus_refusal s n) (of_marks (bus_steps i s.vram_dma).marks);
       arbitration = λ i. either s _ passes (calls.arbitration (arbitrated s i).oam);
-      cycle = λ a n. either s _ (eqb (cycle_refusal s n) 0) (record { taken = λ e. e; pend = λ e. e });
+      cycle = λ a n. either s _ (cycle_refusal s n) (record { taken = λ e. e; pend = λ e. e });
     }
 
 pub once_calls : OnceCalls

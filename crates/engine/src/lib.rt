@@ -59,8 +59,9 @@ pub use fall_edge::FallInput;
 pub use map_write::WriteInput;
 pub use speed_switch::switch::SwitchInput;
 // and what they answer, alone or beside the next state.
-pub use answers::{
-    Arbitrated, ArbitrationAnswer, BusAnswer, BusOutcome, ByteAnswer, ClaimAnswer, ConflictAnswer,
-    CycleAnswer, Cycled, Done, DoneAnswer, Fell, FlagAnswer, Flagged, Handed, ObjectDmaAnswer,
-    PairAnswer, StatusAnswer, SwitchAnswer, Switched, TallyAnswer,
-};
+pub use answers::{BusOutcome, Cycle, Cycled, Moved, ObjectDmaTally, Outcome, Tally};
+pub use console::VramDmaClaim;
+pub use console::refusal::Refusal;
+pub use cut::SwitchOutcome;
+pub use transfer::VramDmaStatus;
+pub use transfer::pair::{BytePair, Cause};

@@ -2,90 +2,65 @@
 // Each tests 7.
 #![tactic(auto)]
 
-ghost use Rattle.answers.specs.Queries.{AnswersFlag};
-ghost use Rattle.engine_queries.specs.Queries.{AnswersTally, AnswersStatus, AnswersClaim, park_waits, request_stands, cpu_held, bus_seized};
+ghost use Rattle.answers.specs.Answers.{flag_values, tally_values, status_values, claim_values};
+ghost use Rattle.answers.specs.Queries.{Asked};
+ghost use Rattle.engine_queries.specs.Queries.{tallied, engine_status, last_claim, park_waits, request_stands, cpu_held, bus_seized};
 
-use answers::{ClaimAnswer, FlagAnswer, StatusAnswer, TallyAnswer};
-use console::{Cgb, refusal};
+use answers::Tally;
+use answers::query::asked;
+use console::refusal::Refusal;
+use console::{Cgb, VramDmaClaim};
+use transfer::VramDmaStatus;
 
-#[tactic(auto, unfolding(crate::specs::Queries::tally_call_of))]
-pub fn tally(state: Cgb) -> TallyAnswer
-    ensures { AnswersTally state result }
+pub fn tally(state: Cgb) -> Result<Tally, Refusal>
+    ensures { Asked tally_values state (tallied state) result }
 {
-    if state.unreached() {
-        return TallyAnswer::Refused(refusal::STATE);
-    }
     let c = state.vram_dma.cursor;
-    TallyAnswer::Tally {
+    let tally = Tally {
         source: c.source,
         dest: c.dest,
         remaining: c.remaining,
         escape_byte: c.escape_byte,
-    }
+    };
+    asked(state, tally)
 }
 
-#[tactic(auto, unfolding(crate::specs::Queries::status_call_of))]
-pub fn vram_dma_status(state: Cgb) -> StatusAnswer
-    ensures { AnswersStatus state result }
+pub fn vram_dma_status(state: Cgb) -> Result<VramDmaStatus, Refusal>
+    ensures { Asked status_values state (engine_status state) result }
 {
-    if state.unreached() {
-        return StatusAnswer::Refused(refusal::STATE);
-    }
-    let d = state.vram_dma;
-    let status = dma_status::status(d);
-    StatusAnswer::Status(status)
+    asked(state, dma_status::status(state.vram_dma))
 }
 
 // The claim of the last commit.
-#[tactic(auto, unfolding(crate::specs::Queries::claim_call_of))]
-pub fn vram_dma_claim(state: Cgb) -> ClaimAnswer
-    ensures { AnswersClaim state result }
+
+pub fn vram_dma_claim(state: Cgb) -> Result<VramDmaClaim, Refusal>
+    ensures { Asked claim_values state (last_claim state) result }
 {
-    if state.unreached() {
-        return ClaimAnswer::Refused(refusal::STATE);
-    }
-    ClaimAnswer::Claim {
-        committed: state.console_state.vram_dma_claim.committed,
-        standing: state.console_state.vram_dma_claim.standing,
-    }
+    asked(state, state.console_state.vram_dma_claim)
 }
 
 // The block waits for the instruction in flight to retire.
-pub fn vram_dma_park_waits_for_fetch(state: Cgb) -> FlagAnswer
-    ensures { AnswersFlag state (park_waits state) result }
+
+pub fn vram_dma_park_waits_for_fetch(state: Cgb) -> Result<bool, Refusal>
+    ensures { Asked flag_values state (park_waits state) result }
 {
-    if state.unreached() {
-        return FlagAnswer::Refused(refusal::STATE);
-    }
-    FlagAnswer::Flag(state.vram_dma.arb.park_waits_for_fetch)
+    asked(state, state.vram_dma.arb.park_waits_for_fetch)
 }
 
-pub fn vram_dma_request_standing(state: Cgb) -> FlagAnswer
-    ensures { AnswersFlag state (request_stands state) result }
+pub fn vram_dma_request_standing(state: Cgb) -> Result<bool, Refusal>
+    ensures { Asked flag_values state (request_stands state) result }
 {
-    if state.unreached() {
-        return FlagAnswer::Refused(refusal::STATE);
-    }
-    let d = state.vram_dma;
-    FlagAnswer::Flag(dma_status::request_standing(d))
+    asked(state, dma_status::request_standing(state.vram_dma))
 }
 
-pub fn vram_dma_holds_cpu(state: Cgb) -> FlagAnswer
-    ensures { AnswersFlag state (cpu_held state) result }
+pub fn vram_dma_holds_cpu(state: Cgb) -> Result<bool, Refusal>
+    ensures { Asked flag_values state (cpu_held state) result }
 {
-    if state.unreached() {
-        return FlagAnswer::Refused(refusal::STATE);
-    }
-    let d = state.vram_dma;
-    FlagAnswer::Flag(dma_status::holds_cpu(d))
+    asked(state, dma_status::holds_cpu(state.vram_dma))
 }
 
-pub fn vram_dma_seizes_bus(state: Cgb) -> FlagAnswer
-    ensures { AnswersFlag state (bus_seized state) result }
+pub fn vram_dma_seizes_bus(state: Cgb) -> Result<bool, Refusal>
+    ensures { Asked flag_values state (bus_seized state) result }
 {
-    if state.unreached() {
-        return FlagAnswer::Refused(refusal::STATE);
-    }
-    let d = state.vram_dma;
-    FlagAnswer::Flag(dma_status::seizes_bus(d))
+    asked(state, dma_status::seizes_bus(state.vram_dma))
 }

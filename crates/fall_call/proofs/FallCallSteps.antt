@@ -2,7 +2,7 @@
 use Prim.Native.Nat.{◌≤◌}
 use mathlib.Core.Path.{◌≡◌, refl, sym, ap}
 use mathlib.Core.Bool.{Bool, true, false}
-use borrow.Author.Tests.{lt-ltb, le-ltb, eq-eqb, ne_eqb}
+use borrow.Author.Tests.{lt-ltb, le-ltb}
 use Rattle.console.specs.Reached.{unreached}
 use Rattle.console.specs.declared.Cgb.{Cgb}
 use Rattle.console.specs.declared.VramDmaClaim.{VramDmaClaim}
@@ -41,8 +41,8 @@ unfolding fall_call_of
 fall_call_steps s i =
     record {
       refusals = fall_refusals s i;
-      accepted = λ none. rw (eq-eqb (fall_refusal s i) 0 none);
-      declined = λ some. rw (ne_eqb (fall_refusal s i) 0 some);
+      accepted = λ none. rw none;
+      declined = λ r some. rw some;
       leaves = λ reached low. leaves s i reached low (fallen s i).refused refl;
       tells = λ reached low. tells s i reached low (fallen s i).refused refl;
     }

@@ -1,2 +1,1 @@
-pub mod FallCall
 pub mod FallCallSteps

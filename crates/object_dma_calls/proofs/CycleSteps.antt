@@ -5,14 +5,15 @@ use mathlib.Core.Path.{◌≡◌, refl, ap}
 use mathlib.Core.Bool.{Bool, true, false, cond, ◌&&◌, false≢true, and-false}
 use mathlib.Core.List.{List}
 use lib.ListN.{set}
-use borrow.Author.Tests.{ne_eqb, le-leb}
+use borrow.Author.Tests.{le-leb}
+use Rattle.std.proofs.Common.{None, Ok}
 use Rattle.console.specs.Reached.{ObjectDmaWithin}
 use Rattle.console.specs.declared.Cgb.{Cgb}
 use Rattle.console.specs.declared.object.ObjectDma.{ObjectDma}
 use Rattle.bus.specs.Store.{oam_with}
 use Rattle.bus.specs.declared.arbitration.Arbitration.{Arbitration}
 use Rattle.bus.specs.declared.arbitration.Arbitration.TheVariants.{Stall}
-use Rattle.answers.specs.declared.CycleAnswer.TheVariants.{Nothing}
+use Rattle.answers.specs.declared.Cycle.TheVariants.{Nothing}
 use Rattle.bus_calls.specs.BusCall.{lengths_of}
 use Rattle.bus_calls.proofs.BusCallSteps.{bus_refusals}
 use Rattle.object_dma.specs.ObjectDma.{runs, after_byte}
@@ -20,7 +21,7 @@ use Rattle.object_dma_calls.specs.Cycle.{counts_byte, counts_now, moves_now, run
 use Rattle.object_dma_calls.specs.Cycle.{oam_after_cycle, cycle_refusal}
 use Rattle.object_dma_calls.specs.Cycle.{cycle_answer, cycle_state, cycle_byte, cycle_oam, cycle_of}
 use Rattle.object_dma_calls.specs.CycleSteps.{CycleRefusals, CycleSteps, ObjectDmaQuery, CycleLaws}
-use Rattle.object_dma_calls.specs.Query.{object_dma_call_of}
+use Rattle.answers.specs.Queries.{asked}
 use Rattle.answers.proofs.Numbers.{state_7, state_passes}
 use Rattle.object_dma_calls.proofs.Cycles.{runs_below}
 
@@ -55,7 +56,7 @@ module _ (s : Cgb) (a : Arbitration) (cartridge wram vram oam : List ℕ) where
         first_7 = by.first_7;
         then_2 = by.then_2;
         accepted = by.accepted;
-        declined = λ number is some. let k = ne_eqb number 0 some in (rw (is, k), rw (is, k));
+        declined = λ r is. (rw is, rw is);
       }
 
 -- OAM has a place for every byte of a run
@@ -66,11 +67,11 @@ inside oam k byte h = rw (le-leb (0xFE00 + k) 0xFE9F (omega arith)) (ap (λ (i :
     back : (k : ℕ) → (0xFE00 + k) - 0xFE00 ≡ k
     back k = omega arith
 
-module _ (s : Cgb) (cartridge wram vram oam : List ℕ) (zero : cycle_refusal s (lengths_of cartridge wram vram oam) ≡ 0) where
+module _ (s : Cgb) (cartridge wram vram oam : List ℕ) (zero : cycle_refusal s (lengths_of cartridge wram vram oam) ≡ None) where
   resting :
       (a : Arbitration) → counts_now a s.object_dma ≡ false → moves_now a s.object_dma ≡ false →
       cycle_answer_of a s.object_dma ≡ Nothing →
-      (cycle_of s a cartridge wram vram oam ≡ record { answer = Nothing; byte = 0; state = s }) ×
+      (cycle_of s a cartridge wram vram oam ≡ record { answer = Ok Nothing; byte = 0; state = s }) ×
       (cycle_oam s a (lengths_of cartridge wram vram oam) cartridge wram vram oam ≡ oam)
   unfolding cycle_of cycle_answer cycle_state cycle_byte cycle_oam after_cycle byte_moved oam_after_cycle
   resting a c m n = (rw (zero, c, m, n), rw (zero, m))
@@ -99,7 +100,7 @@ module _ (s : Cgb) (cartridge wram vram oam : List ℕ) (zero : cycle_refusal s 
       }
 
 object_dma_query : (s : Cgb) → ObjectDmaQuery s
-unfolding object_dma_call_of
+unfolding asked
 object_dma_query s = record { tells = λ reached. rw (state_passes s reached); declined = λ seven. rw (state_7 s seven) }
 
 pub cycle_laws : CycleLaws

@@ -1,3 +1,2 @@
 pub mod Cycles
 pub mod CycleSteps
-pub mod Queries

@@ -3,16 +3,17 @@ ghost use Rattle.std.specs.Prelude.{◌≡◌, ◌<◌};
 ghost use Rattle.object_dma.specs.ObjectDma.{after_byte};
 ghost use Rattle.object_dma_calls.specs.Cycle.{refused_cycle, Took, AnswersCycle};
 
-use answers::{CycleAnswer, Cycled};
+use answers::{Cycle, Cycled};
 use bus::arbitration::Arbitration;
 use bus::commit::Banks;
+use console::Cgb;
 use console::object::ObjectDma;
-use console::{Cgb, refusal};
+use console::refusal::Refusal;
 
 // What became of the next byte, and object DMA after it.
 #[derive(Clone, Copy)]
 pub struct ByteTaken {
-    pub answer: CycleAnswer,
+    pub answer: Cycle,
     pub byte: u8,
     pub object: ObjectDma,
 }
@@ -26,11 +27,12 @@ fn count_byte(o: ObjectDma) -> ObjectDma
     ObjectDma {
         running: counted < 160,
         page: o.page,
-        counted: counted,
+        counted,
         start_edge: o.start_edge,
     }
 }
 
+#[tactic(auto, unfolding(crate::specs::Cycle::cycle_answer_of, crate::specs::Cycle::after_cycle, crate::specs::Cycle::byte_moved, crate::specs::Cycle::oam_after_cycle))]
 fn take_byte(
     object: ObjectDma,
     arbitration: Arbitration,
@@ -45,46 +47,44 @@ fn take_byte(
 {
     if !object_dma::runs(object) {
         return ByteTaken {
-            answer: CycleAnswer::Nothing,
+            answer: Cycle::Nothing,
             byte: 0,
-            object: object,
+            object,
         };
     }
     let source = object_dma::source(object);
     match arbitration {
         Arbitration::Stall => ByteTaken {
-            answer: CycleAnswer::Nothing,
+            answer: Cycle::Nothing,
             byte: 0,
-            object: object,
+            object,
         },
         Arbitration::Contended => {
-            let counted = count_byte(object);
             ByteTaken {
-                answer: CycleAnswer::PassedOver(source),
+                answer: Cycle::PassedOver(source),
                 byte: 0,
-                object: counted,
+                object: count_byte(object),
             }
         }
         Arbitration::Clear => {
             let byte = bus_memory::source::read_object_source(banks, cartridge, wram, vram, source);
             bus_memory::store::commit_oam(oam, object_dma::target(object), byte);
-            let counted = count_byte(object);
             ByteTaken {
-                answer: CycleAnswer::Moved(source),
-                byte: byte,
-                object: counted,
+                answer: Cycle::Moved(source),
+                byte,
+                object: count_byte(object),
             }
         }
     }
 }
 
-fn refused(state: Cgb, number: u8) -> Cycled
-    ensures { result ≡ refused_cycle number state }
+fn refused(state: Cgb, refusal: Refusal) -> Cycled
+    ensures { result ≡ refused_cycle refusal state }
 {
     Cycled {
-        answer: CycleAnswer::Refused(number),
+        answer: Err(refusal),
         byte: 0,
-        state: state,
+        state,
     }
 }
 
@@ -100,10 +100,10 @@ pub fn object_dma_m_cycle(
         result oam.new }
 {
     if state.unreached() {
-        return refused(state, refusal::STATE);
+        return refused(state, Refusal::State);
     }
     if memory::wrong_lengths(cartridge.len(), wram.len(), vram.len(), oam.len()) {
-        return refused(state, refusal::LENGTH);
+        return refused(state, Refusal::Length);
     }
     let banks = Banks {
         svbk: state.svbk,
@@ -118,13 +118,12 @@ pub fn object_dma_m_cycle(
         vram,
         oam,
     );
-    let answer = taken.answer;
-    let object = taken.object;
-    let mut after = state;
-    after.object_dma = object;
     Cycled {
-        answer: answer,
+        answer: Ok(taken.answer),
         byte: taken.byte,
-        state: after,
+        state: Cgb {
+            object_dma: taken.object,
+            ..state
+        },
     }
 }

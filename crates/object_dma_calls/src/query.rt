@@ -1,20 +1,21 @@
 // What is asked of object DMA: for the caller who tells a fall whether OAM DMA owns a bus.
-ghost use Rattle.object_dma_calls.specs.Query.{AnswersObjectDma};
+ghost use Rattle.answers.specs.Answers.{object_dma_values};
+ghost use Rattle.answers.specs.Queries.{Asked};
+ghost use Rattle.object_dma_calls.specs.Query.{object_dma_told};
 
-use answers::ObjectDmaAnswer;
-use console::{Cgb, refusal};
+use answers::ObjectDmaTally;
+use answers::query::asked;
+use console::Cgb;
+use console::refusal::Refusal;
 
-#[tactic(auto, unfolding(crate::specs::Query::object_dma_call_of))]
-pub fn object_dma(state: Cgb) -> ObjectDmaAnswer
-    ensures { AnswersObjectDma state result }
+pub fn object_dma(state: Cgb) -> Result<ObjectDmaTally, Refusal>
+    ensures { Asked object_dma_values state (object_dma_told state) result }
 {
-    if state.unreached() {
-        return ObjectDmaAnswer::Refused(refusal::STATE);
-    }
-    let runs = object_dma::runs(state.object_dma);
-    ObjectDmaAnswer::ObjectDma {
-        runs: runs,
-        counted: state.object_dma.counted,
-        page: state.object_dma.page,
-    }
+    let o = state.object_dma;
+    let tally = ObjectDmaTally {
+        runs: object_dma::runs(o),
+        counted: o.counted,
+        page: o.page,
+    };
+    asked(state, tally)
 }

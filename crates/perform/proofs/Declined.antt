@@ -22,7 +22,7 @@ use Rattle.perform.specs.Perform.{read_performed, write_performed, bus_performed
 module _ (s : Cgb) (wram vram oam : List ℕ) where
   read_declined : (a : ℕ) → ((read_performed s wram a).told.refusal ≡ 0 → ⊥) → Declined s wram vram oam (read_performed s wram a) wram vram oam
   unfolding read_performed read_said
-  read_declined a = told.quiet s wram vram oam (read_refusal s (length wram) a) _ _ s refl (λ e. refl)
+  read_declined a = told.quiet s wram vram oam (read_refusal s (length wram) a) _ _ s refl (λ x e. refl)
 
   write_declined :
       (a : ℕ) (w : WriteInput) → ((write_performed s w a (length wram)).told.refusal ≡ 0 → ⊥) →
@@ -30,7 +30,7 @@ module _ (s : Cgb) (wram vram oam : List ℕ) where
   unfolding write_performed write_said write_of write_wram
   write_declined a w =
       told.law s wram vram oam (write_refusal s w.value (length wram) a) [] (write_performed s w a (length wram)) (write_wram s w a wram) vram oam refl
-      (λ e. record {
+      (λ x e. record {
         number_alone = rw e;
         no_pair_lem = refl;
         no_cause = refl;
@@ -51,7 +51,7 @@ module _ (s : Cgb) (wram vram oam : List ℕ) where
       let n = lengths_of cartridge wram vram oam in
       told.law s wram vram oam (bus_refusal s n) _ (bus_performed s i cartridge wram vram oam) wram
       (bus_vram s i n cartridge wram vram) (bus_oam s i n cartridge wram oam) refl
-      (λ e. record {
+      (λ x e. record {
         number_alone = rw e;
         no_pair_lem = rw e;
         no_cause = rw e;
@@ -72,7 +72,7 @@ module _ (s : Cgb) (wram vram oam : List ℕ) where
       let n = lengths_of cartridge wram vram oam in
       told.law s wram vram oam (cycle_refusal s n) _ (cycle_performed s a cartridge wram vram oam) wram
       vram (cycle_oam s a n cartridge wram vram oam) refl
-      (λ e. record {
+      (λ x e. record {
         number_alone = rw e;
         no_pair_lem = refl;
         no_cause = refl;

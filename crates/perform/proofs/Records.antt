@@ -3,28 +3,28 @@ use Prim.Native.Nat.{ℕ}
 use mathlib.Core.Path.{◌≡◌, refl, sym, ap, subst, ◌∙◌}
 use mathlib.Core.List.{List}
 use Rattle.console.specs.declared.Cgb.{Cgb}
-use Rattle.call.specs.declared.Call as call
-use Rattle.record.specs.declared.Coded.{Coded}
-use Rattle.record.specs.declared.Coded.TheVariants.{Call, Unknown}
+use Rattle.std.proofs.Common.{Option, Some, None}
+use Rattle.console.specs.declared.refusal.Refusal.TheVariants.{Record}
+use Rattle.call.specs.declared.Call.{Call}
 use Rattle.told.specs.Told.{told_refused, quietly}
 use Rattle.told.specs.declared.Performed.{Performed}
 use Rattle.told.specs.declared.Told.{Told}
 use Rattle.perform.specs.Perform.{Performs}
 use Rattle.perform.specs.Record.{record_performed, record_wram, record_vram, record_oam, PerformsRecord}
 
-module _ (s : Cgb) (coded : Coded) (cartridge wram vram oam : List ℕ) where
+module _ (s : Cgb) (coded : Option Call) (cartridge wram vram oam : List ℕ) where
   as_known :
-      (k : Coded) (r : Performed) (w v o : List ℕ) → coded ≡ k → PerformsRecord s k cartridge wram vram oam r w v o →
+      (k : Option Call) (r : Performed) (w v o : List ℕ) → coded ≡ k → PerformsRecord s k cartridge wram vram oam r w v o →
       PerformsRecord s coded cartridge wram vram oam r w v o
-  as_known k r w v o is p = subst (λ (x : Coded). PerformsRecord s x cartridge wram vram oam r w v o) (sym is) p
+  as_known k r w v o is p = subst (λ (x : Option Call). PerformsRecord s x cartridge wram vram oam r w v o) (sym is) p
 
   pub performs_none :
-      (r : Performed) (told : Told) → coded ≡ Unknown → r ≡ quietly told s → told ≡ told_refused 6 →
+      (r : Performed) (told : Told) → coded ≡ None → r ≡ quietly told s → told ≡ told_refused Record →
       PerformsRecord s coded cartridge wram vram oam r wram vram oam
   unfolding record_performed record_wram record_vram record_oam
   performs_none r told none is six =
-      let whole : r ≡ quietly (told_refused 6) s = is ∙ ap (λ (t : Told). quietly t s) six in
-      as_known Unknown r wram vram oam none
+      let whole : r ≡ quietly (told_refused Record) s = is ∙ ap (λ (t : Told). quietly t s) six in
+      as_known None r wram vram oam none
       (record {
         result = whole;
         work = refl;
@@ -44,9 +44,9 @@ module _ (s : Cgb) (coded : Coded) (cartridge wram vram oam : List ℕ) where
       })
 
   pub performs_call :
-      (c : call.Call) (r : Performed) (w v o : List ℕ) → coded ≡ Call c → Performs s c cartridge wram vram oam r w v o →
+      (c : Call) (r : Performed) (w v o : List ℕ) → coded ≡ Some c → Performs s c cartridge wram vram oam r w v o →
       PerformsRecord s coded cartridge wram vram oam r w v o
   unfolding record_performed record_wram record_vram record_oam
   performs_call c r w v o is p =
-      as_known (Call c) r w v o is
+      as_known (Some c) r w v o is
       (record { result = p.result; work = p.work; stored = p.stored; deposit = p.deposit; declined = p.declined })

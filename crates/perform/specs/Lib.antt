@@ -1,2 +1,3 @@
 pub mod Perform
 pub mod Record
+pub mod Bussed

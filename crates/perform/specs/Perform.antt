@@ -6,7 +6,7 @@ use Rattle.bus.specs.Deposit.{no_pair}
 use Rattle.bus.specs.declared.arbitration.Arbitration.{Arbitration}
 use Rattle.bus.specs.declared.commit.BusInput.{BusInput}
 use Rattle.map_write.specs.declared.WriteInput.{WriteInput}
-use Rattle.answers.specs.Answers.{causes_say}
+use Rattle.answers.specs.Answers.{cause_numbers}
 use Rattle.engine.specs.Calls.{read_said, write_of, write_wram, write_said, lengths_of, bus_said, bus_vram, bus_oam, bus_of}
 use Rattle.engine.specs.Calls.{inside_bus, cycle_said, cycle_oam, cycle_of}
 use Rattle.call.specs.declared.Call.{Call}
@@ -28,7 +28,7 @@ bus_performed s i cartridge wram vram oam =
     record {
       told = told_of (bus_said s i (lengths_of cartridge wram vram oam));
       pairs = b.pairs;
-      causes = causes_say b.causes;
+      causes = cause_numbers b.causes;
       bytes = b.bytes;
       state = b.state;
     }

@@ -1,31 +1,31 @@
 -- A record's call performed. One of no call gets 6 (document 01: "6 replay record of other kind or short") and leaves all as given.
-use Rattle.std.specs.Prelude.{ℕ, ◌≡◌, List}
+use Rattle.std.specs.Prelude.{ℕ, ◌≡◌, List, Option, Some, None}
 use Rattle.console.specs.declared.Cgb.{Cgb}
-use Rattle.record.specs.declared.Coded.{Coded}
-use Rattle.record.specs.declared.Coded.TheVariants.{Call, Unknown}
+use Rattle.console.specs.declared.refusal.Refusal.TheVariants as refusal
+use Rattle.call.specs.declared.Call.{Call}
 use Rattle.told.specs.Declined.{Declined}
 use Rattle.told.specs.Told.{told_refused, quietly}
 use Rattle.told.specs.declared.Performed.{Performed}
 use Rattle.perform.specs.Perform.{perform_of, wram_left, vram_left, oam_left}
 
-unfoldable pub record_performed : Cgb → Coded → List ℕ → List ℕ → List ℕ → List ℕ → Performed
-record_performed s (Call c) cartridge wram vram oam = perform_of s c cartridge wram vram oam
-record_performed s Unknown cartridge wram vram oam = quietly (told_refused 6) s
+unfoldable pub record_performed : Cgb → Option Call → List ℕ → List ℕ → List ℕ → List ℕ → Performed
+record_performed s (Some c) cartridge wram vram oam = perform_of s c cartridge wram vram oam
+record_performed s None cartridge wram vram oam = quietly (told_refused refusal.Record) s
 
-unfoldable pub record_wram : Cgb → Coded → List ℕ → List ℕ
-record_wram s (Call c) wram = wram_left s c wram
-record_wram s Unknown wram = wram
+unfoldable pub record_wram : Cgb → Option Call → List ℕ → List ℕ
+record_wram s (Some c) wram = wram_left s c wram
+record_wram s None wram = wram
 
-unfoldable pub record_vram : Cgb → Coded → List ℕ → List ℕ → List ℕ → List ℕ → List ℕ
-record_vram s (Call c) cartridge wram vram oam = vram_left s c cartridge wram vram oam
-record_vram s Unknown cartridge wram vram oam = vram
+unfoldable pub record_vram : Cgb → Option Call → List ℕ → List ℕ → List ℕ → List ℕ → List ℕ
+record_vram s (Some c) cartridge wram vram oam = vram_left s c cartridge wram vram oam
+record_vram s None cartridge wram vram oam = vram
 
-unfoldable pub record_oam : Cgb → Coded → List ℕ → List ℕ → List ℕ → List ℕ → List ℕ
-record_oam s (Call c) cartridge wram vram oam = oam_left s c cartridge wram vram oam
-record_oam s Unknown cartridge wram vram oam = oam
+unfoldable pub record_oam : Cgb → Option Call → List ℕ → List ℕ → List ℕ → List ℕ → List ℕ
+record_oam s (Some c) cartridge wram vram oam = oam_left s c cartridge wram vram oam
+record_oam s None cartridge wram vram oam = oam
 
 -- the whole outcome
-pub record PerformsRecord (s : Cgb) (k : Coded) (cartridge wram vram oam : List ℕ) (r : Performed) (last_wram last_vram last_oam : List ℕ) : Type 0 where
+pub record PerformsRecord (s : Cgb) (k : Option Call) (cartridge wram vram oam : List ℕ) (r : Performed) (last_wram last_vram last_oam : List ℕ) : Type 0 where
   pub result : r ≡ record_performed s k cartridge wram vram oam
   pub work : last_wram ≡ record_wram s k wram
   pub stored : last_vram ≡ record_vram s k cartridge wram vram oam

@@ -1,8 +1,10 @@
 // The calls that are lent memory: what each said, a bus call's pairs with their causes and bytes, the byte of an M-cycle call, and the state after.
 ghost use Rattle.std.specs.Prelude.{◌≡◌};
 ghost use Rattle.perform.specs.Perform.{WritePerformed, BusPerformed, CyclePerformed, read_performed};
+ghost use Rattle.perform.specs.Bussed.{bussed_of};
 ghost use Rattle.engine.specs.Calls.{inside_bus};
 
+use answers::BusOutcome;
 use bus::arbitration::Arbitration;
 use bus::commit::BusInput;
 use bus::hold::HoldInput;
@@ -15,18 +17,30 @@ use transfer::pair::BytePair;
 pub fn write(state: Cgb, wram: &mut [u8], address: u16, input: WriteInput) -> Performed
     ensures { WritePerformed state input address wram.old result wram.new }
 {
-    let done = engine::write(state, wram, address, input);
-    let answer = done.answer;
-    let after = done.state;
-    told::quiet(told::of_done(answer), after)
+    told::outcome(engine::write(state, wram, address, input))
 }
 
 #[tactic(auto, unfolding(crate::specs::Perform::read_performed))]
 pub fn read(state: Cgb, wram: &[u8], address: u16) -> Performed
     ensures { result ≡ read_performed state wram.now address }
 {
-    let answer = engine::read(state, wram, address);
-    told::quiet(told::of_byte(answer), state)
+    told::quiet(told::of(engine::read(state, wram, address)), state)
+}
+
+// What a bus call of either form came to.
+fn bussed(done: BusOutcome) -> Performed
+    ensures { result ≡ bussed_of done }
+{
+    let pairs = done.pairs;
+    let causes = told::of_causes(done.causes);
+    let bytes = done.bytes;
+    Performed {
+        told: told::of(done.answer),
+        pairs,
+        causes,
+        bytes,
+        state: done.state,
+    }
 }
 
 #[tactic(auto, unfolding(crate::specs::Perform::bus_performed))]
@@ -41,19 +55,7 @@ pub fn bus(
     ensures { BusPerformed state input cartridge.now wram.now vram.old oam.old
         result vram.new oam.new }
 {
-    let bussed = engine::vram_dma_commit_bytes(state, input, cartridge, wram, vram, oam);
-    let answer = bussed.answer;
-    let pairs = bussed.pairs;
-    let causes = bussed.causes;
-    let bytes = bussed.bytes;
-    let after = bussed.state;
-    Performed {
-        told: told::of_bus(answer),
-        pairs: pairs,
-        causes: told::of_causes(causes),
-        bytes: bytes,
-        state: after,
-    }
+    bussed(engine::vram_dma_commit_bytes(state, input, cartridge, wram, vram, oam))
 }
 
 #[tactic(auto, unfolding(crate::specs::Perform::bus_performed))]
@@ -68,19 +70,7 @@ pub fn bus_inside(
     ensures { BusPerformed state (inside_bus state input) cartridge.now wram.now vram.old oam.old
         result vram.new oam.new }
 {
-    let bussed = engine::vram_dma_commit_bytes_inside(state, input, cartridge, wram, vram, oam);
-    let answer = bussed.answer;
-    let pairs = bussed.pairs;
-    let causes = bussed.causes;
-    let bytes = bussed.bytes;
-    let after = bussed.state;
-    Performed {
-        told: told::of_bus(answer),
-        pairs: pairs,
-        causes: told::of_causes(causes),
-        bytes: bytes,
-        state: after,
-    }
+    bussed(engine::vram_dma_commit_bytes_inside(state, input, cartridge, wram, vram, oam))
 }
 
 #[tactic(auto, unfolding(crate::specs::Perform::cycle_performed))]
@@ -96,13 +86,11 @@ pub fn cycle(
         result oam.new }
 {
     let cycled = engine::object_dma_m_cycle(state, arbitration, cartridge, wram, vram, oam);
-    let answer = cycled.answer;
-    let after = cycled.state;
     Performed {
-        told: told::of_cycle(answer),
+        told: told::of(cycled.answer),
         pairs: [BytePair { source: 0, dest: 0 }; 2],
         causes: [0u8; 2],
         bytes: [cycled.byte, 0],
-        state: after,
+        state: cycled.state,
     }
 }

@@ -8,8 +8,8 @@ ghost use Rattle.perform.specs.Perform.{Performs};
 ghost use Rattle.perform.specs.Record.{PerformsRecord};
 
 use call::Call;
-use console::{Cgb, refusal};
-use record::Coded;
+use console::Cgb;
+use console::refusal::Refusal;
 use told::Performed;
 
 pub fn perform(
@@ -43,7 +43,7 @@ pub fn perform(
 // A record's call, or 6 where it is of no call.
 pub fn perform_record(
     state: Cgb,
-    coded: Coded,
+    coded: Option<Call>,
     cartridge: &[u8],
     wram: &mut [u8],
     vram: &mut [u8],
@@ -52,8 +52,8 @@ pub fn perform_record(
     ensures { PerformsRecord state coded cartridge.now wram.old vram.old oam.old
         result wram.new vram.new oam.new }
 {
-    let Coded::Call(call) = coded else {
-        return told::quiet(told::refused(refusal::RECORD), state);
+    let Some(call) = coded else {
+        return told::quiet(told::refused(Refusal::Record), state);
     };
     perform(state, call, cartridge, wram, vram, oam)
 }

@@ -1,7 +1,7 @@
 -- An answer's record of 24 bytes, numbers lowest byte first: 0 refusal, 1 zero, 2–9 the four values, 10–13 the first pair's source
 -- and destination, 14–17 the second's, 18 and 19 their bytes, 20 and 21 their causes, 22 and 23 zero; an M-cycle call's
 -- byte is byte 18.
-use Rattle.std.specs.Prelude.{ℕ, ◌/◌, ◌%◌, List, [], ◌∷◌, ◌++◌, get_or, replicate}
+use Rattle.std.specs.Prelude.{ℕ, List, [], ◌∷◌, ◌++◌, get_or, replicate}
 use Rattle.arithmetic.specs.Number.{digits}
 use Rattle.bus.specs.Deposit.{no_pair}
 use Rattle.transfer.specs.declared.pair.BytePair.{BytePair}

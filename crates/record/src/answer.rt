@@ -1,20 +1,8 @@
 // An answer's record: the refusal, the values, a bus call's pairs, their bytes and causes or an M-cycle call's byte, lowest byte first.
-ghost use Rattle.std.specs.Prelude.{◌≡◌, ◌/◌, ◌%◌};
+ghost use Rattle.std.specs.Prelude.{◌≡◌};
 ghost use Rattle.record.specs.Answer.{answer_bytes, refused_bytes};
 
 use told::Performed;
-
-fn low(n: u16) -> u8
-    ensures { result ≡ n % 256 }
-{
-    (n % 256) as u8
-}
-
-fn high(n: u16) -> u8
-    ensures { result ≡ n / 256 % 256 }
-{
-    (n / 256 % 256) as u8
-}
 
 // A refused call's record: the number and zeros.
 pub fn refused(number: u8) -> [u8; 24]
@@ -28,34 +16,38 @@ pub fn refused(number: u8) -> [u8; 24]
 pub fn encode(p: Performed) -> [u8; 24]
     ensures { result ≡ answer_bytes p }
 {
-    let pairs = p.pairs;
-    let causes = p.causes;
-    let bytes = p.bytes;
-    let first = pairs[0];
-    let second = pairs[1];
+    let v0 = p.told.v0.to_le_bytes();
+    let v1 = p.told.v1.to_le_bytes();
+    let v2 = p.told.v2.to_le_bytes();
+    let v3 = p.told.v3.to_le_bytes();
+    let [first, second] = p.pairs;
+    let first_source = first.source.to_le_bytes();
+    let first_dest = first.dest.to_le_bytes();
+    let second_source = second.source.to_le_bytes();
+    let second_dest = second.dest.to_le_bytes();
     [
         p.told.refusal,
         0,
-        low(p.told.v0),
-        high(p.told.v0),
-        low(p.told.v1),
-        high(p.told.v1),
-        low(p.told.v2),
-        high(p.told.v2),
-        low(p.told.v3),
-        high(p.told.v3),
-        low(first.source),
-        high(first.source),
-        low(first.dest),
-        high(first.dest),
-        low(second.source),
-        high(second.source),
-        low(second.dest),
-        high(second.dest),
-        bytes[0],
-        bytes[1],
-        causes[0],
-        causes[1],
+        v0[0],
+        v0[1],
+        v1[0],
+        v1[1],
+        v2[0],
+        v2[1],
+        v3[0],
+        v3[1],
+        first_source[0],
+        first_source[1],
+        first_dest[0],
+        first_dest[1],
+        second_source[0],
+        second_source[1],
+        second_dest[0],
+        second_dest[1],
+        p.bytes[0],
+        p.bytes[1],
+        p.causes[0],
+        p.causes[1],
         0,
         0,
     ]

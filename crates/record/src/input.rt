@@ -2,7 +2,6 @@
 ghost use Rattle.std.specs.Prelude.{◌≡◌};
 ghost use Rattle.record.specs.Input.{edge_of, address_of, elapsed_of, boundary_of, write_input_of, fall_input_of, switch_input_of, bus_input_of, arbitration_input_of, hold_input_of};
 
-use arithmetic::number::{of_eight, of_four, of_two};
 use bus::arbitration::ArbitrationInput;
 use bus::commit::BusInput;
 use bus::hold::HoldInput;
@@ -13,31 +12,30 @@ use speed_switch::switch::SwitchInput;
 pub fn edge(bytes: [u8; 16]) -> u64
     ensures { result ≡ edge_of bytes }
 {
-    of_eight(
+    u64::from_le_bytes([
         bytes[8], bytes[9], bytes[10], bytes[11], bytes[12], bytes[13], bytes[14], bytes[15],
-    )
+    ])
 }
 
 pub fn address(bytes: [u8; 16]) -> u16
     ensures { result ≡ address_of bytes }
 {
-    of_two(bytes[2], bytes[3])
+    u16::from_le_bytes([bytes[2], bytes[3]])
 }
 
 pub fn elapsed(bytes: [u8; 16]) -> u32
     ensures { result ≡ elapsed_of bytes }
 {
-    of_four(bytes[8], bytes[9], bytes[10], bytes[11])
+    u32::from_le_bytes([bytes[8], bytes[9], bytes[10], bytes[11]])
 }
 
 pub fn write_input(bytes: [u8; 16]) -> WriteInput
     ensures { result ≡ write_input_of bytes }
 {
-    let at = edge(bytes);
     WriteInput {
         value: bytes[4],
         lcd_on: bytes[5] != 0,
-        oam_start_edge: at,
+        oam_start_edge: edge(bytes),
     }
 }
 
@@ -46,13 +44,12 @@ pub fn fall_input(bytes: [u8; 16]) -> FallInput
     ensures { result ≡ fall_input_of bytes }
 {
     let flags = bytes[5];
-    let at = edge(bytes);
     FallInput {
         mode: bytes[4],
         halted: flags % 2 == 1,
         irq_latched: flags / 2 % 2 == 1,
         stopped: flags / 4 % 2 == 1,
-        master_edge: at,
+        master_edge: edge(bytes),
         oam_owns_bus: flags / 8 % 2 == 1,
     }
 }
@@ -62,12 +59,11 @@ pub fn switch_input(bytes: [u8; 16]) -> SwitchInput
     ensures { result ≡ switch_input_of bytes }
 {
     let flags = bytes[5];
-    let at = edge(bytes);
     SwitchInput {
         hold: flags % 2 == 1,
         dot_phase: bytes[4],
         interrupt_ready: flags / 2 % 2 == 1,
-        master_edge: at,
+        master_edge: edge(bytes),
     }
 }
 
@@ -76,11 +72,10 @@ pub fn bus_input(bytes: [u8; 16]) -> BusInput
     ensures { result ≡ bus_input_of bytes }
 {
     let flags = bytes[5];
-    let at = edge(bytes);
     BusInput {
         hold: flags % 2 == 1,
         suspended: flags / 2 % 2 == 1,
-        oam_start_edge: at,
+        oam_start_edge: edge(bytes),
     }
 }
 

@@ -7,67 +7,38 @@ pub mod input;
 pub mod kind;
 
 ghost use Rattle.std.specs.Prelude.{◌≡◌};
-ghost use Rattle.record.specs.Record.{call_in, cycle_in, call_of};
+ghost use Rattle.record.specs.Record.{cycle_in, call_of};
 
 use bus::arbitration::Arbitration;
 use call::Call;
-use kind::CodedPlain;
 
-#[derive(Clone, Copy)]
-pub enum Coded {
-    Call(Call),
-    Unknown,
-}
-
-fn wrapped(coded: CodedPlain) -> Coded
-    ensures { result ≡ call_in coded }
-{
-    let CodedPlain::Plain(p) = coded else {
-        return Coded::Unknown;
-    };
-    Coded::Call(Call::Plain(p))
-}
-
-// Arbitration's answer by its number; above 2 it is none.
+// An M-cycle call by arbitration's answer, by its number; above 2 it is none. A TryFrom would need an error type that is dropped here.
 #[tactic(auto, unfolding(crate::specs::Record::cycle_in))]
-fn cycle(answer: u8) -> Coded
+fn cycle(answer: u8) -> Option<Call>
     ensures { result ≡ cycle_in answer }
 {
     match answer {
-        0 => Coded::Call(Call::ObjectDmaCycle(Arbitration::Clear)),
-        1 => Coded::Call(Call::ObjectDmaCycle(Arbitration::Contended)),
-        2 => Coded::Call(Call::ObjectDmaCycle(Arbitration::Stall)),
-        _ => Coded::Unknown,
+        0 => Some(Call::ObjectDmaCycle(Arbitration::Clear)),
+        1 => Some(Call::ObjectDmaCycle(Arbitration::Contended)),
+        2 => Some(Call::ObjectDmaCycle(Arbitration::Stall)),
+        _ => None,
     }
 }
 
+// The call that a record says, if it is one.
 #[tactic(auto, unfolding(crate::specs::Record::call_of))]
-pub fn decode(bytes: [u8; 16]) -> Coded
+pub fn decode(bytes: [u8; 16]) -> Option<Call>
     ensures { result ≡ call_of bytes }
 {
-    let kind = bytes[0];
-    match kind {
-        1 => {
-            let at = input::address(bytes);
-            let input = input::write_input(bytes);
-            Coded::Call(Call::Write {
-                address: at,
-                input: input,
-            })
-        }
-        8 => Coded::Call(Call::Read(input::address(bytes))),
-        9 => {
-            let input = input::bus_input(bytes);
-            Coded::Call(Call::Bus(input))
-        }
+    match bytes[0] {
+        1 => Some(Call::Write {
+            address: input::address(bytes),
+            input: input::write_input(bytes),
+        }),
+        8 => Some(Call::Read(input::address(bytes))),
+        9 => Some(Call::Bus(input::bus_input(bytes))),
         27 => cycle(bytes[4]),
-        29 => {
-            let input = input::hold_input(bytes);
-            Coded::Call(Call::BusInside(input))
-        }
-        _ => {
-            let coded = kind::plain(bytes);
-            wrapped(coded)
-        }
+        29 => Some(Call::BusInside(input::hold_input(bytes))),
+        _ => kind::plain(bytes).map(Call::Plain),
     }
 }

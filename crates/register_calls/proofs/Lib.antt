@@ -1,3 +1,3 @@
-pub mod Says
+pub mod Refusals
 pub mod Accepted
 pub mod AccessSteps

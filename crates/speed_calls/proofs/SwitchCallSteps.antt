@@ -4,7 +4,9 @@ use mathlib.Core.Path.{◌≡◌}
 use mathlib.Core.Bool.{true, false}
 use lib.Dec.{ltb}
 use borrow.Author.Tests.{lt-ltb, le-ltb}
+use Rattle.std.proofs.Common.{Some, None}
 use Rattle.console.specs.declared.Cgb.{Cgb}
+use Rattle.console.specs.declared.refusal.Refusal.TheVariants.{Deferred}
 use Rattle.transfer.proofs.Conditions.{when_false}
 use Rattle.cut.specs.CutSteps.{ReadyBlock}
 use Rattle.cut.specs.Cut.{ready_block}
@@ -27,11 +29,11 @@ module _ (s : Cgb) (i : SwitchInput) where
   phase a = le-ltb 4 i.dot_phase a.phase
 
   -- the last reason as one test
-  deferred : Attempted s i → s.speed_switch_blackout ≡ 0 → s.key1_armed ≡ true → defers s ≡ true → switch_refusal s i ≡ 13
+  deferred : Attempted s i → s.speed_switch_blackout ≡ 0 → s.key1_armed ≡ true → defers s ≡ true → switch_refusal s i ≡ Some Deferred
   unfolding switch_refusal
   deferred a none armed defer = rw (a.reached, defer, phase a, a.unheld, calm none, armed)
 
-  free : Attempted s i → s.speed_switch_blackout ≡ 0 → s.key1_armed ≡ true → defers s ≡ false → switch_refusal s i ≡ 0
+  free : Attempted s i → s.speed_switch_blackout ≡ 0 → s.key1_armed ≡ true → defers s ≡ false → switch_refusal s i ≡ None
   unfolding switch_refusal
   free a none armed at_once = rw (a.reached, at_once, phase a, a.unheld, calm none, armed)
 

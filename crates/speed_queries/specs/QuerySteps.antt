@@ -1,11 +1,10 @@
 -- What is shown of the queries of the speed (document 01, section 4), of each state that passes 7: yes exactly when the conditions
 -- hold (`BlackoutSteps` has the divider's), and the steps of each speed.
-use Rattle.std.specs.Prelude.{◌<◌, ◌≡◌, true, false}
+use Rattle.std.specs.Prelude.{◌<◌, ◌≡◌, true, false, Ok}
 use Rattle.console.specs.Reached.{unreached}
 use Rattle.console.specs.declared.Cgb.{Cgb}
 use Rattle.blackout.specs.BlackoutSteps.{DividerRuns}
-use Rattle.answers.specs.Queries.{Asks, byte_of}
-use Rattle.answers.specs.declared.ByteAnswer.TheVariants.{Byte}
+use Rattle.answers.specs.Queries.{asked, Asks}
 use Rattle.speed_queries.specs.Queries.{switch_in_progress, divider_runs, at_double_speed, cpu_steps}
 
 pub record SpeedQuerySteps (s : Cgb) : Type 0 where
@@ -14,8 +13,8 @@ pub record SpeedQuerySteps (s : Cgb) : Type 0 where
   pub divider : Asks s (divider_runs s) (DividerRuns s.double_speed s.speed_switch_blackout)
   pub double : Asks s (at_double_speed s) (s.double_speed ≡ true)
   -- `cpu_steps_per_dot`
-  pub steps_double : s.double_speed ≡ true → byte_of s (cpu_steps s) ≡ Byte 2
-  pub steps_single : s.double_speed ≡ false → byte_of s (cpu_steps s) ≡ Byte 1
+  pub steps_double : s.double_speed ≡ true → asked s (cpu_steps s) ≡ Ok 2
+  pub steps_single : s.double_speed ≡ false → asked s (cpu_steps s) ≡ Ok 1
 
 pub record SpeedQueries : Type 0 where
   pub steps : (s : Cgb) → unreached s ≡ false → SpeedQuerySteps s

@@ -1,48 +1,37 @@
 // What is asked of the speed and of the blackout of a switch, and changes nothing (lib.rs, speed_switch.rs). Each tests 7.
 #![tactic(auto)]
 
-ghost use Rattle.answers.specs.Queries.{AnswersFlag, AnswersByte};
+ghost use Rattle.answers.specs.Answers.{flag_values, byte_values};
+ghost use Rattle.answers.specs.Queries.{Asked};
 ghost use Rattle.speed_queries.specs.Queries.{switch_in_progress, divider_runs, at_double_speed, cpu_steps};
 
-use answers::{ByteAnswer, FlagAnswer};
-use console::{Cgb, refusal};
+use answers::query::asked;
+use console::Cgb;
+use console::refusal::Refusal;
 
 // A blackout is running.
-pub fn speed_switch_in_progress(state: Cgb) -> FlagAnswer
-    ensures { AnswersFlag state (switch_in_progress state) result }
+pub fn speed_switch_in_progress(state: Cgb) -> Result<bool, Refusal>
+    ensures { Asked flag_values state (switch_in_progress state) result }
 {
-    if state.unreached() {
-        return FlagAnswer::Refused(refusal::STATE);
-    }
-    FlagAnswer::Flag(blackout::blackout_active(state.speed_switch_blackout))
+    let running = blackout::blackout_active(state.speed_switch_blackout);
+    asked(state, running)
 }
 
-pub fn speed_switch_divider_active(state: Cgb) -> FlagAnswer
-    ensures { AnswersFlag state (divider_runs state) result }
+pub fn speed_switch_divider_active(state: Cgb) -> Result<bool, Refusal>
+    ensures { Asked flag_values state (divider_runs state) result }
 {
-    if state.unreached() {
-        return FlagAnswer::Refused(refusal::STATE);
-    }
-    FlagAnswer::Flag(blackout::blackout_divider_active(
-        state.double_speed,
-        state.speed_switch_blackout,
-    ))
+    let runs = blackout::blackout_divider_active(state.double_speed, state.speed_switch_blackout);
+    asked(state, runs)
 }
 
-pub fn double_speed(state: Cgb) -> FlagAnswer
-    ensures { AnswersFlag state (at_double_speed state) result }
+pub fn double_speed(state: Cgb) -> Result<bool, Refusal>
+    ensures { Asked flag_values state (at_double_speed state) result }
 {
-    if state.unreached() {
-        return FlagAnswer::Refused(refusal::STATE);
-    }
-    FlagAnswer::Flag(state.double_speed)
+    asked(state, state.double_speed)
 }
 
-pub fn cpu_steps_per_dot(state: Cgb) -> ByteAnswer
-    ensures { AnswersByte state (cpu_steps state) result }
+pub fn cpu_steps_per_dot(state: Cgb) -> Result<u8, Refusal>
+    ensures { Asked byte_values state (cpu_steps state) result }
 {
-    if state.unreached() {
-        return ByteAnswer::Refused(refusal::STATE);
-    }
-    ByteAnswer::Byte(speed_switch::steps_per_dot(state.double_speed))
+    asked(state, speed_switch::steps_per_dot(state.double_speed))
 }

@@ -1,9 +1,11 @@
 -- What an answer says, as numbers for a caller in another language: its number, then its values in the order of
 -- answers/specs/Answers, the spare ones 0.
 use Rattle.std.specs.Prelude.{ℕ, List, [], ◌∷◌, get_or}
-use Rattle.answers.specs.Answers.{Said}
+use Rattle.answers.specs.Answers.{Said, declined}
 use Rattle.bus.specs.Deposit.{no_pair}
+use Rattle.console.specs.Refusals.{refusal_number}
 use Rattle.console.specs.declared.Cgb.{Cgb}
+use Rattle.console.specs.declared.refusal.Refusal.{Refusal}
 use Rattle.told.specs.declared.Performed.{Performed}
 use Rattle.told.specs.declared.Told.{Told}
 
@@ -17,11 +19,9 @@ told_of said =
       v3 = get_or said.values 3 0;
     }
 
-abbrev pub told_values : ℕ → ℕ → ℕ → ℕ → Told
-told_values v0 v1 v2 v3 = record { refusal = 0; v0 = v0; v1 = v1; v2 = v2; v3 = v3 }
-
-abbrev pub told_refused : ℕ → Told
-told_refused n = record { refusal = n; v0 = 0; v1 = 0; v2 = 0; v3 = 0 }
+-- a declined call's: the number, and no value
+abbrev pub told_refused : Refusal → Told
+told_refused r = told_of (declined (refusal_number r))
 
 -- a call that hands out no bytes
 abbrev pub quietly : Told → Cgb → Performed

@@ -5,4 +5,4 @@ pub returns-in_default : goal.returns-in_default
 returns-in_default c = performs_none _ _ _ _ _ _ _ _ c.in_default.is c.quiet.ensures c.refused.ensures
 
 pub returns : goal.returns
-returns c = performs_call _ _ _ _ _ _ _ _ _ _ _ c.in-Call.is c.perform.ensures
+returns c = performs_call _ _ _ _ _ _ _ _ _ _ _ c.in-Some.is c.perform.ensures
