@@ -6,10 +6,12 @@ use mathlib.Core.Bool.{Bool, true, false, ◌&&◌, false≢true}
 use mathlib.Core.List.{List, [], ◌∷◌, ◌++◌}
 use lib.Dec.{eqb}
 use borrow.Author.Tests.{eqb-true}
+use Rattle.std.proofs.Common.{Ok}
 use Rattle.console.specs.PowerOn.{power_on_of, dma_at_rest}
 use Rattle.console.specs.declared.Cgb.{Cgb}
 use Rattle.memory.specs.Lengths.{wram_length}
-use Rattle.console.specs.Reached.{unreached}
+use Rattle.console.specs.Reached.{unreached, state_refusal}
+use Rattle.console.specs.Refusals.{answered}
 use Rattle.hdma.specs.Hdma5.{hdma5_written, armed_of, cancelled_of, general_started, status_byte}
 use Rattle.registers.specs.Map.{place_of, locks_at}
 use Rattle.map_read.specs.Read.{map_byte}
@@ -36,12 +38,11 @@ use Rattle.blackout.specs.Blackout.{drained_of}
 use Rattle.engine.specs.Calls.{read_refusal, access_refusal, read_of, write_of, fall_refusal, fallen_state, fall_call_of, Lengths, lengths_of, wrong_lengths}
 use Rattle.engine.specs.Calls.{bus_refusal, bus_pairs, bus_answer, bus_state, bus_vram, bus_oam, arbitration_call_of, defers, switch_refusal, switch_call_of}
 use Rattle.engine.specs.Calls.{blackout_call_of}
-use Rattle.answers.specs.Answers.{state_refusal, byte_answer}
-use Rattle.answers.specs.declared.ByteAnswer.TheVariants as byte
 use Rattle.ledger.specs.Ledger.{empty, followed, after_pair, after_pairs, after_call}
-use Rattle.ledger.specs.Calls.{step, ledger_input}
+use Rattle.ledger.specs.Calls.{bus_call, step, ledger_input}
 use Rattle.ledger.proofs.Bools.{and_left, and_right}
-use Rattle.case_theorem.specs.Cases.{Progress, in_compat, start, after_one, after_calls, vram_run, run, ff55_is, to, falls, held_beside, lengths}
+use Rattle.case_theorem.specs.Cases.{Progress, in_compat, without_compat, start, after_one, after_calls, vram_run, run, ff55_is, to, falls, held_beside}
+use Rattle.case_theorem.specs.Cases.{lengths, addresses, upward}
 use Rattle.case_theorem.specs.Cases.{k1, K1, two_falls, K2, K3, K4, K5, k6, K6, K7, k8, Lent, first_lands, second_lands, K8, K10, Cases}
 
 -- lists of addresses are compared number by number
@@ -65,10 +66,10 @@ is_same (p ∷ ps) (q ∷ qs) h =
 -- a read of FF55 looks at no more of the work RAM than its length
 ff55_by :
     (v : ℕ) (w : Progress) →
-    byte_answer (read_refusal w.engine wram_length 0xFF55) (map_byte w.engine [] (place_of 0xFF55)) ≡ byte.Byte v → ff55_is v w
+    answered (read_refusal w.engine wram_length 0xFF55) (map_byte w.engine [] (place_of 0xFF55)) ≡ Ok v → ff55_is v w
 unfolding read_of place_of
 ff55_by v w h wram sized =
-    ap (λ (n : ℕ). byte_answer (read_refusal w.engine n 0xFF55) (map_byte w.engine [] (place_of 0xFF55))) sized ∙ h
+    ap (λ (n : ℕ). answered (read_refusal w.engine n 0xFF55) (map_byte w.engine [] (place_of 0xFF55))) sized ∙ h
 
 -- and a bus call's deposit at no more of the four slices than their lengths
 at_exit :
@@ -192,13 +193,18 @@ case7 : K7
 unfolding opens_runs opens_writes opens_switches opens_drains_blackout
 case7 = record { up = refl; down = refl; again = refl }
 
+-- the bus call beside OAM DMA moves both bytes
+moved8 : addresses (after_calls without_compat (k8 100) (bus_call (held_beside 98) lengths ∷ [])).pairs ≡ upward 2 0x1230 0x8000
+unfolding opens_runs opens_writes opens_fall opens_moves opens_arbitrates
+moved8 = is_same (addresses (after_calls without_compat (k8 100) (bus_call (held_beside 98) lengths ∷ [])).pairs) (upward 2 0x1230 0x8000) refl
+
 case8 : K8
 unfolding opens_runs opens_writes opens_fall opens_moves opens_deposits opens_arbitrates
 case8 =
     record {
       block_edge = refl;
       contended = refl;
-      moved = is_same _ _ refl;
+      moved = moved8;
       at_98 = λ m. at_exit (k8 100).engine 98 m (second_lands m) refl;
       at_92 = λ m. at_exit (k8 100).engine 92 m (second_lands m) refl;
       at_96 = λ m. at_exit (k8 100).engine 96 m (first_lands m) refl;

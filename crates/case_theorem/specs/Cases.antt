@@ -1,17 +1,15 @@
 -- The cases (document 01, "Cases"), with the ledger beside them: lists of calls from power-on, run by the calls' own definitions.
 -- In a list a bus call is by its slices' lengths: what it hands out is the same for any contents.
-use Rattle.std.specs.Prelude.{ℕ, zero, suc, ◌+◌, ◌-◌, ◌<◌, ◌≡◌, true, false, List, [], ◌∷◌, ◌++◌, T, ltb, length, set, get_or}
+use Rattle.std.specs.Prelude.{ℕ, zero, suc, ◌+◌, ◌-◌, ◌<◌, ◌≡◌, true, false, List, [], ◌∷◌, ◌++◌, T, ltb, length, set, get_or, Ok}
 use Rattle.console.specs.PowerOn.{power_on_of}
 use Rattle.console.specs.declared.Cgb.{Cgb}
 use Rattle.memory.specs.Lengths.{cartridge_length, wram_length, vram_length, oam_length}
+use Rattle.bus.specs.declared.arbitration.Arbitration.TheVariants.{Contended}
 use Rattle.bus.specs.declared.arbitration.ArbitrationInput.{ArbitrationInput}
 use Rattle.bus.specs.declared.commit.BusInput.{BusInput}
+use Rattle.cut.specs.declared.SwitchOutcome.TheVariants.{Cut}
 use Rattle.transfer.specs.declared.pair.BytePair.{BytePair}
 use Rattle.engine.specs.Calls.{read_of, Lengths, lengths_of, bus_answer, bus_vram, bus_oam, arbitration_call_of, switch_call_of, inside_bus}
-use Rattle.answers.specs.declared.ArbitrationAnswer.TheVariants as arbitration
-use Rattle.answers.specs.declared.BusAnswer.TheVariants as bus
-use Rattle.answers.specs.declared.ByteAnswer.TheVariants as byte
-use Rattle.answers.specs.declared.SwitchAnswer.TheVariants as switched
 use Rattle.speed_switch.specs.declared.switch.SwitchInput.{SwitchInput}
 use Rattle.ledger.specs.LedgerInput.{Configuration}
 use Rattle.ledger.specs.Ledger.{Ledger, empty, after_call}
@@ -83,7 +81,7 @@ copied (suc n) cartridge vram = set (copied n cartridge vram) n (get_or cartridg
 
 -- "FF55 is v": a read call of it answers v, whatever the work RAM that is lent to it holds
 abbrev pub ff55_is : ℕ → Progress → Type 0
-ff55_is v w = (wram : List ℕ) → length wram ≡ wram_length → read_of w.engine wram 0xFF55 ≡ byte.Byte v
+ff55_is v w = (wram : List ℕ) → length wram ≡ wram_length → read_of w.engine wram 0xFF55 ≡ Ok v
 
 -- "LCD on"
 abbrev pub to : (address value : ℕ) → T (ltb value 256) → Call
@@ -156,8 +154,8 @@ five_falls v byte = four_falls v byte ++ (held_bus ∷ falls 0 ∷ [])
 pub record K2 : Type 0 where
   pub second : ff55_is 0x00 (run (two_falls 0x80 tt))
   pub third : ff55_is 0xFF (run (two_falls 0x80 tt ++ (falls 0 ∷ [])))
-  pub fourth : bus_answer (run (four_falls 0x80 tt)).engine held_input lengths ≡ bus.Moved 0 true
-  pub fifth : bus_answer (run (five_falls 0x80 tt)).engine held_input lengths ≡ bus.Moved 2 false
+  pub fourth : bus_answer (run (four_falls 0x80 tt)).engine held_input lengths ≡ Ok (record { count = 0; setup_cell = true })
+  pub fifth : bus_answer (run (five_falls 0x80 tt)).engine held_input lengths ≡ Ok (record { count = 2; setup_cell = false })
   pub moved : addresses (run (five_falls 0x80 tt ++ (held_bus ∷ []))).pairs ≡ upward 2 0x0000 0x8000
 
 -- "83 then 00 in front of any fall: 80"
@@ -189,7 +187,7 @@ abbrev pub k6 : Progress
 k6 = after_calls without_compat k6_armed (switch_speed (unheld 4) ∷ falls 0 ∷ held_bus ∷ [])
 
 pub record K6 : Type 0 where
-  pub cut : (switch_call_of k6_armed.engine (unheld 4)).answer ≡ switched.Cut
+  pub cut : (switch_call_of k6_armed.engine (unheld 4)).answer ≡ Ok Cut
   pub moved : addresses k6.pairs ≡ upward 3 0x0000 0x8000
   pub free : k6.ledger.free_pairs ≡ 1
   pub left : (k6.engine.vram_dma.cursor.remaining ≡ 30) × (k6.ledger.left ≡ 30)
@@ -249,7 +247,7 @@ second_lands m = set m.oam (0xFE31 - 0xFE00) (get_or m.cartridge 0x1231 0)
 
 pub record K8 : Type 0 where
   pub block_edge : (k8 100).engine.vram_dma.block.start_edge ≡ 100
-  pub contended : (arbitration_call_of (k8_ready 100).engine beside_oam).answer ≡ arbitration.Contended
+  pub contended : (arbitration_call_of (k8_ready 100).engine beside_oam).answer ≡ Ok Contended
   pub moved : addresses (after_calls without_compat (k8 100) (bus_call (held_beside 98) lengths ∷ [])).pairs ≡ upward 2 0x1230 0x8000
   pub at_98 : (m : Lent) → k8_oam 100 98 m ≡ second_lands m
   pub at_92 : (m : Lent) → k8_oam 100 92 m ≡ second_lands m

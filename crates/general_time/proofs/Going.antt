@@ -6,8 +6,9 @@ use mathlib.Core.Bool.{Bool, true, false, and-false, false≢true}
 use mathlib.Core.Logic.{⊎_elim}
 use native.Mathlib.Nat.{eq-zero-or-pos}
 use borrow.Author.Tests.{le-ltb}
+use Rattle.std.specs.Prelude.{None, Ok}
 use Rattle.console.specs.Modes.{is_idle, is_hblank}
-use Rattle.console.specs.Reached.{unreached}
+use Rattle.console.specs.Reached.{unreached, state_refusal}
 use Rattle.console.specs.declared.Cgb.{Cgb}
 use Rattle.console.specs.declared.vram_dma.TransferCursor.{TransferCursor}
 use Rattle.console.specs.declared.vram_dma.TransferMode.{TransferMode}
@@ -21,16 +22,13 @@ use Rattle.bus.proofs.Taken.{bus_keeps}
 use Rattle.transfer.specs.Pair.{moving_of, next_byte_of}
 use Rattle.transfer.specs.Questions as transfer
 use Rattle.transfer.specs.declared.VramDmaStatus.TheVariants as dma
-use Rattle.transfer.specs.declared.pair.NextAnswer.TheVariants.{None}
 use Rattle.transfer.specs.declared.pair.NextByte.{NextByte}
 use Rattle.transfer.proofs.PairSteps.{pair_steps}
 use Rattle.fall_stages.specs.Fall.{view_of, fall_of}
 use Rattle.fall_stages.specs.Steps.{commit_test}
 use Rattle.fall_stages.specs.declared.FallInput.{FallInput}
 use Rattle.fall_stages.proofs.Steps.{fall_steps}
-use Rattle.engine.specs.Calls.{status_call_of, fallen_state, inside_bus}
-use Rattle.answers.specs.Answers.{state_refusal}
-use Rattle.answers.specs.declared.StatusAnswer.TheVariants.{Status}
+use Rattle.engine.specs.Calls.{asked, engine_status, fallen_state, inside_bus}
 use Rattle.ledger.specs.Calls.{Call, Outcome, fall, bus_call, bus_call_inside, BusCall, from_outside, from_inside, step}
 use Rattle.ledger.specs.LedgerInput.{accepts}
 use Rattle.ledger.proofs.AcceptedOrDeclined.{either_way, accepted_where}
@@ -44,7 +42,7 @@ Going d = 0 < d.cursor.remaining → d.cursor.mode ≡ mode.General
 
 -- ---- the status
 pub in_general : (s : Cgb) → unreached s ≡ false → Going s.vram_dma → 0 < left s → InGeneral s
-unfolding status_call_of transfer.status_of state_refusal
+unfolding asked transfer.status_of state_refusal
 in_general s passes going some = record { left = left s; status = rw (passes, going some) }
 
 is_idle_lem : (m : TransferMode) → is_idle m ≡ true → m ≡ mode.Idle
@@ -52,8 +50,8 @@ is_idle_lem mode.Idle h = refl
 is_idle_lem mode.General h = absurd (false≢true h)
 is_idle_lem mode.HBlank h = absurd (false≢true h)
 
-pub in_idle : (s : Cgb) → unreached s ≡ false → left s ≡ 0 → status_call_of s ≡ Status dma.Idle
-unfolding status_call_of transfer.status_of state_refusal
+pub in_idle : (s : Cgb) → unreached s ≡ false → left s ≡ 0 → asked s (engine_status s) ≡ Ok dma.Idle
+unfolding asked transfer.status_of state_refusal
 in_idle s passes none = rw (passes, is_idle_lem s.vram_dma.cursor.mode ((seven.reached s passes).engine.idle none))
 
 pub going_in : (s : Cgb) → InGeneral s → Going s.vram_dma

@@ -25,9 +25,9 @@ use Rattle.ledger.proofs.Theorem.{invariant, fresh, demand3}
 use Rattle.general_time.specs.Instances.{cgb_mode}
 use Rattle.general_time.specs.GeneralTime.{left}
 use Rattle.general_time.proofs.Behind.{Goes, goes}
-use Rattle.general_time.proofs.Going.{Going, unarmed, fell_going, fell_cell, fall_accepted, pair_going}
+use Rattle.general_time.proofs.Going.{Going, fell_going, fell_cell, fall_accepted, pair_going}
 use Rattle.general_time.proofs.Rounds.{fall_ledger, fall_speed}
-use Rattle.general_time.proofs.Ready.{event, on, Ready, general}
+use Rattle.general_time.proofs.Ready.{event, on, Ready}
 
 -- ---- a pair at a time: a fall in mode 3 and a next pair
 abbrev pub in_mode_3 : FallInput

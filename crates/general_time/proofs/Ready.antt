@@ -29,7 +29,6 @@ use Rattle.ledger.proofs.Theorem.{invariant, speaks}
 use Rattle.ledger.proofs.Tied.{returned_step}
 use Rattle.console.proofs.Refusals.{NoneHolds}
 use Rattle.general_time.specs.Instances.{cgb_mode, stored_input, storing}
-use Rattle.general_time.specs.Rounds.{none}
 use Rattle.general_time.proofs.Going.{unarmed}
 use Rattle.general_time.proofs.Started.{write_pairs}
 

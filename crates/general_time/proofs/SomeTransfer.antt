@@ -14,9 +14,9 @@ use Rattle.bus.specs.declared.commit.BusInput.{BusInput}
 use Rattle.engine.specs.Calls.{Lengths, wrong_lengths}
 use Rattle.ledger.specs.LedgerInput.{accepts}
 use Rattle.ledger.specs.Ledger.{Ledger, high_byte, low_byte, after_length}
-use Rattle.ledger.specs.Calls.{write, fall, bus_call, BusCall, from_outside, step}
+use Rattle.ledger.specs.Calls.{fall, bus_call, BusCall, from_outside, step}
 use Rattle.ledger.specs.Demand3.{Event, History, then, RunsTo}
-use Rattle.ledger.proofs.AcceptedOrDeclined.{accepted, accepted_where}
+use Rattle.ledger.proofs.AcceptedOrDeclined.{accepted_where}
 use Rattle.ledger.proofs.Theorem.{invariant, demand3}
 use Rattle.general_time.specs.Instances.{cgb_mode, stored_input, storing}
 use Rattle.general_time.specs.Rounds.{Starts, none, round, InWords, FirstClear}

@@ -16,7 +16,6 @@ use Rattle.ledger.proofs.AcceptedOrDeclined.{either_way}
 use Rattle.ledger.proofs.OneRun.{same_state}
 use Rattle.ledger.proofs.Theorem.{invariant, speaks, demand3}
 use Rattle.general_time.specs.Rounds.{Starts}
-use Rattle.general_time.specs.GeneralTime.{left}
 use Rattle.general_time.proofs.Behind.{at_first, none_left}
 use Rattle.general_time.proofs.Going.{some_left}
 use Rattle.general_time.proofs.Rounds.{Reaches, last}

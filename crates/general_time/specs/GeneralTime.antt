@@ -1,13 +1,12 @@
 -- Document 02, A5: a General transfer takes exactly the bus calls and the bytes of its estimate, at both speeds; of every run of the
 -- public functions from power-on.
-use Rattle.std.specs.Prelude.{ℕ, ◌+◌, ◌*◌, ◌≤◌, ◌<◌, min, ◌≡◌, Bool, true, cond, List, ◌↔◌, length}
+use Rattle.std.specs.Prelude.{ℕ, ◌+◌, ◌*◌, ◌≤◌, ◌<◌, min, ◌≡◌, Bool, true, cond, List, ◌↔◌, length, Ok}
 use Rattle.console.specs.declared.Cgb.{Cgb}
 use Rattle.estimate.specs.Estimate.{estimated_bytes, estimated_cycles}
 use Rattle.fall_stages.specs.declared.FallInput.{FallInput}
 use Rattle.transfer.specs.declared.pair.BytePair.{BytePair}
 use Rattle.transfer.specs.declared.VramDmaStatus.TheVariants as dma
-use Rattle.engine.specs.Calls.{status_call_of, at_double_speed}
-use Rattle.answers.specs.declared.StatusAnswer.TheVariants.{Status}
+use Rattle.engine.specs.Calls.{asked, engine_status, at_double_speed}
 use Rattle.ledger.specs.LedgerInput.{accepts}
 use Rattle.ledger.specs.Ledger.{Ledger}
 use Rattle.ledger.specs.Calls.{Outcome, fall}
@@ -42,7 +41,7 @@ pub record Takes (l : Ledger) (double : Bool) (v k : ℕ) (ps : List BytePair) (
   pub speed : at_double_speed u ≡ double
   -- until the end the status is General, and then Idle
   pub general : k < transfer_cycles l double v → InGeneral u
-  pub idle : transfer_cycles l double v ≤ k → status_call_of u ≡ Status dma.Idle
+  pub idle : transfer_cycles l double v ≤ k → asked u (engine_status u) ≡ Ok dma.Idle
 
 -- a history with k rounds behind h, each of one fall and one bus call, as the paper has them
 pub record SomeRounds (AtBus : ℕ → Cgb → Type 0) (h : History) (k : ℕ) : Type 0 where

@@ -1,6 +1,6 @@
 -- The calls that document 02's A5 speaks of, in H: a write to FF55 that starts a General transfer, then rounds of an accepted fall
 -- and, directly after it, an accepted bus call that holds the bus.
-use Rattle.std.specs.Prelude.{ℕ, zero, suc, ◌+◌, ◌%◌, ◌≡◌, Bool, true, false, List, [], ◌∷◌, ◌++◌, T, ltb}
+use Rattle.std.specs.Prelude.{ℕ, zero, suc, ◌+◌, ◌%◌, ◌≡◌, Bool, true, false, List, [], ◌∷◌, ◌++◌, T, ltb, Ok}
 use Rattle.console.specs.declared.Cgb.{Cgb}
 use Rattle.bus.specs.Commit.{holds_bus, setup_stands}
 use Rattle.bus.specs.declared.commit.BusInput.{BusInput}
@@ -8,8 +8,7 @@ use Rattle.fall_stages.specs.declared.FallInput.{FallInput}
 use Rattle.map_write.specs.declared.WriteInput.{WriteInput}
 use Rattle.transfer.specs.declared.VramDmaStatus.TheVariants as dma
 use Rattle.transfer.specs.declared.pair.BytePair.{BytePair}
-use Rattle.engine.specs.Calls.{status_call_of, at_double_speed}
-use Rattle.answers.specs.declared.StatusAnswer.TheVariants.{Status}
+use Rattle.engine.specs.Calls.{asked, engine_status, at_double_speed}
 use Rattle.ledger.specs.LedgerInput.{Configuration, accepts}
 use Rattle.ledger.specs.Ledger.{Ledger}
 use Rattle.ledger.specs.Calls.{write, fall, BusCall}
@@ -18,7 +17,7 @@ use Rattle.ledger.specs.Demand3.{Event, History, then, RunsTo, running, ledger_o
 -- a status query would answer General
 pub record InGeneral (s : Cgb) : Type 0 where
   pub left : ℕ
-  pub status : status_call_of s ≡ Status (dma.General left)
+  pub status : asked s (engine_status s) ≡ Ok (dma.General left)
 
 -- behind the history h, with the ledger l and at this speed, the accepted write w of v to FF55 starts a General transfer: the status
 -- after it is General. "With no escape owed": the ledger's free is clear

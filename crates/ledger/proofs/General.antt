@@ -9,8 +9,11 @@ use lib.Dec.{eqb}
 use lib.ListN.{length}
 use borrow.Author.Tests.{eqb-true, eqb-false}
 use Rattle.console.specs.Modes.{is_idle}
-use Rattle.console.specs.Reached.{unreached}
+use Rattle.std.proofs.Common.{Option, Some, None, Ok}
+use Rattle.console.specs.Reached.{unreached, state_refusal}
+use Rattle.console.specs.Refusals.{answered}
 use Rattle.console.specs.declared.Cgb.{Cgb}
+use Rattle.console.specs.declared.refusal.Refusal.{Refusal}
 use Rattle.console.specs.declared.vram_dma.TransferCursor.{TransferCursor}
 use Rattle.console.specs.declared.vram_dma.TransferMode.{TransferMode}
 use Rattle.console.specs.declared.vram_dma.TransferMode.TheVariants as mode
@@ -27,9 +30,7 @@ use Rattle.transfer.specs.declared.VramDmaStatus.TheVariants as dma
 use Rattle.transfer.specs.declared.pair.NextByte.{NextByte}
 use Rattle.transfer.proofs.PairSteps.{pair_steps, steps}
 use Rattle.fall_stages.proofs.Refills.{general_moves}
-use Rattle.engine.specs.Calls.{Lengths, bus_refusal, bus_pairs, status_call_of}
-use Rattle.answers.specs.Answers.{state_refusal}
-use Rattle.answers.specs.declared.StatusAnswer.TheVariants.{Status, Refused}
+use Rattle.engine.specs.Calls.{Lengths, bus_refusal, bus_pairs, asked, engine_status}
 use Rattle.ledger.specs.Demand3.{general_pairs}
 
 -- a status of General is told in mode General alone
@@ -38,16 +39,15 @@ general_mode mode.Idle c left h = cc
 general_mode mode.General c left h = refl
 general_mode mode.HBlank c left h = cc
 
-pub mode_of : (s : Cgb) (left : ℕ) → status_call_of s ≡ Status (dma.General left) → s.vram_dma.cursor.mode ≡ mode.General
-unfolding status_call_of transfer.status_of
-mode_of s left = by (eqb (state_refusal s) 0)
+pub mode_of : (s : Cgb) (left : ℕ) → asked s (engine_status s) ≡ Ok (dma.General left) → s.vram_dma.cursor.mode ≡ mode.General
+unfolding asked transfer.status_of
+mode_of s left = by (state_refusal s)
   where
     by :
-        (b : Bool) →
-        cond b (Status (status_in s.vram_dma.cursor.mode s.vram_dma.cursor)) (Refused (state_refusal s)) ≡
-        Status (dma.General left) → s.vram_dma.cursor.mode ≡ mode.General
-    by true h = general_mode s.vram_dma.cursor.mode s.vram_dma.cursor left (cc)
-    by false h = cc
+        (k : Option Refusal) → answered k (status_in s.vram_dma.cursor.mode s.vram_dma.cursor) ≡ Ok (dma.General left) →
+        s.vram_dma.cursor.mode ≡ mode.General
+    by None h = general_mode s.vram_dma.cursor.mode s.vram_dma.cursor left (cc)
+    by (Some r) h = cc
 
 -- in mode General something is left
 left_of : (s : Cgb) → unreached s ≡ false → s.vram_dma.cursor.mode ≡ mode.General → 0 < s.vram_dma.cursor.remaining
@@ -118,7 +118,7 @@ general_count s passes fresh general =
 
 -- an accepted bus call that holds the bus and takes no set-up cell hands out the engine's pairs
 pub held_pairs :
-    (s : Cgb) (i : BusInput) (n : Lengths) → eqb (bus_refusal s n) 0 ≡ true → holds_bus i ≡ true → setup_stands s.vram_dma ≡ false →
+    (s : Cgb) (i : BusInput) (n : Lengths) → bus_refusal s n ≡ None → holds_bus i ≡ true → setup_stands s.vram_dma ≡ false →
     bus_pairs s i n ≡ (pairs_of s.vram_dma).pairs
 unfolding bus_pairs
 held_pairs s i n accepted held no_cell = rw (accepted, moving i s.vram_dma held no_cell)

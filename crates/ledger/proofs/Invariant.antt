@@ -5,14 +5,16 @@ use native.Mathlib.Omega.{arith}
 use mathlib.Core.Path.{◌≡◌, refl, sym, ap, subst, ◌∙◌}
 use mathlib.Core.Bool.{Bool, true, false, cond, not, ◌&&◌, ◌||◌, false≢true}
 use mathlib.Core.List.{List, []}
-use lib.Dec.{eqb, ltb, lit<}
+use lib.Dec.{ltb, lit<}
 use lib.ListN.{length}
+use Rattle.std.specs.Prelude as option
 use Rattle.console.specs.Reached.{unreached}
 use Rattle.console.specs.Set.{with_vram_dma}
 use Rattle.console.specs.declared.Cgb.{Cgb}
 use Rattle.console.specs.declared.vram_dma.TransferCursor.{TransferCursor}
 use Rattle.console.specs.declared.vram_dma.VramDma.{VramDma}
-use Rattle.console.proofs.Refusals.{NoneHolds}
+use Rattle.console.specs.declared.refusal.Refusal.{Refusal}
+use Rattle.console.proofs.Refusals.{NoneHolds, some_number}
 use Rattle.fall_stages.specs.declared.FallInput.{FallInput}
 use Rattle.fall_stages.proofs.Steps.{fall_steps}
 use Rattle.fall_stages.proofs.Refills.{refills}
@@ -25,19 +27,18 @@ use Rattle.cut.specs.declared.SwitchOutcome.TheVariants.{None, Discarded, Cut}
 use Rattle.transfer.specs.Pair.{moving_of, quota_of, drain_of}
 use Rattle.transfer.specs.declared.pair.BytePair.{BytePair}
 use Rattle.transfer.specs.declared.pair.Cause.{Cause}
-use Rattle.transfer.specs.declared.pair.NextAnswer.TheVariants as next
 use Rattle.transfer.specs.declared.pair.NextByte.{NextByte}
 use Rattle.transfer.proofs.PairSteps.{pair_steps}
 use Rattle.engine.specs.Calls.{fallen, fallen_state, inside_bus}
 use Rattle.ledger.specs.LedgerInput.{Configuration, LedgerInput, a_write, a_fall, a_switch, a_drain, another, Reply, accepts, is_fall, is_drain}
 use Rattle.ledger.specs.Ledger.{Ledger, after_cut, effect, after_pairs, after_call}
 use Rattle.ledger.specs.Calls
-use Rattle.ledger.specs.Calls.{Call, Outcome, handing, step, ledger_input}
+use Rattle.ledger.specs.Calls.{Call, Outcome, step, ledger_input}
 use Rattle.ledger.specs.Causes.{CausesFollow, no_cause}
 use Rattle.ledger.specs.Demand3.{NextPairs, no_more, Balanced}
 use Rattle.ledger.proofs.Core.{Core, under, core_of, quota, fall_core, lcd_core, lcd_quota, blackout_core, blackout_quota, wake_core}
 use Rattle.ledger.proofs.Core.{wake_quota}
-use Rattle.ledger.proofs.AcceptedOrDeclined.{quiet, giving, handing_on, accepting, declined, cuts, reasons_of, number_of, given_by, either_way}
+use Rattle.ledger.proofs.AcceptedOrDeclined.{quiet, giving, handing_on, accepting, declined, cuts, reasons_of, given_by, either_way}
 use Rattle.ledger.proofs.PairsMatch.{Match, PairsMatch, next_match, drain_match, bus_match}
 use Rattle.ledger.proofs.Writes.{write_match}
 
@@ -91,18 +92,19 @@ upward_cursor false d = refl
 
 module _ (k : Configuration) (s : Cgb) (l : Ledger) (n : ℕ) (i : Invariant k s l n) where
   -- a refusal keeps all: "no refused call changes it"
-  refused_ledger : (c : LedgerInput) (number : ℕ) → eqb number 0 ≡ false → after_call k c (handing number [] []) l ≡ l
+  refused_ledger : (c : LedgerInput) (r : Refusal) → after_call k c (declined (option.Some r) s).reply l ≡ l
   unfolding after_call
-  refused_ledger c number e = ap (λ (b : Bool). cond b (after_pairs [] (effect k c (handing number [] []) l)) l) e
+  refused_ledger c r = ap (λ (b : Bool). cond b (after_pairs [] (effect k c (declined (option.Some r) s).reply l)) l) (some_number r)
 
-  declined_laws : (c : LedgerInput) (number : ℕ) → eqb number 0 ≡ false → CallLaws k l n c (declined number s)
-  declined_laws c number e =
+  declined_laws : (c : LedgerInput) (r : Refusal) → CallLaws k l n c (declined (option.Some r) s)
+  declined_laws c r =
+      let e = some_number r in
       record {
         next = λ t. no_fall (sym e ∙ t);
         caused = λ t. no_fall (sym e ∙ t);
         refill = λ f t. no_fall (sym e ∙ t);
         holds = record {
-          agree = subst (Match k (core_of s)) (sym (refused_ledger c number e)) i.agree;
+          agree = subst (Match k (core_of s)) (sym (refused_ledger c r)) i.agree;
           budget = rw e (spent (is_drain c));
         };
       }
@@ -219,7 +221,7 @@ module _ (k : Configuration) (s : Cgb) (l : Ledger) (n : ℕ) (i : Invariant k s
         holds = record { agree = p.agree; budget = omega (arith, (pair_steps.drains s.vram_dma owed moving).1, i.budget) };
       }
 
-  undrained_laws : drain_of s.vram_dma ≡ record { answer = next.None; dma = s.vram_dma } → DrainLaws (drain_of s.vram_dma)
+  undrained_laws : drain_of s.vram_dma ≡ record { answer = option.None; dma = s.vram_dma } → DrainLaws (drain_of s.vram_dma)
   unfolding after_call after_pairs
   undrained_laws e =
       subst DrainLaws (sym e)
@@ -264,4 +266,4 @@ module _ (k : Configuration) (s : Cgb) (l : Ledger) (n : ℕ) (i : Invariant k s
   -- and declined
   pub keeps : (c : Call) → CallLaws k l n (ledger_input c) (step s c)
   keeps c =
-      either_way s (CallLaws k l n (ledger_input c)) c (accepted_laws c) (declined_laws (ledger_input c) (number_of s c))
+      either_way s (CallLaws k l n (ledger_input c)) c (accepted_laws c) (declined_laws (ledger_input c))

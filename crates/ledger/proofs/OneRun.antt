@@ -7,14 +7,24 @@ use lib.ListN.{length, replicate, length-replicate}
 use contract.Lifetimes.{Lfts}
 use denote.Ref.{Bor, MutBor}
 use Rattle.console.specs.PowerOn.{power_on_of}
+use Rattle.console.specs.Reached.{state_refusal}
 use Rattle.console.specs.declared.Cgb.{Cgb}
 use Rattle.bus.specs.declared.arbitration.Arbitration.{Arbitration}
 use Rattle.bus.specs.declared.commit.BusInput.{BusInput}
 use Rattle.bus.specs.declared.hold.HoldInput.{HoldInput}
 use Rattle.map_write.specs.declared.WriteInput.{WriteInput}
-use Rattle.engine.specs.Calls.{read_of, write_of, write_wram, fall_call_of, next_pair_of, lengths_of, bus_vram, bus_oam, bus_of, arbitration_call_of}
-use Rattle.engine.specs.Calls.{switch_call_of, blackout_call_of, wake_call_of, escape_drain_of, lcd_call_of, retired_call_of, conflict_call_of}
-use Rattle.engine.specs.Calls.{Lengths, inside_arbitration, inside_bus, cycle_oam, cycle_of}
+use Rattle.map_read.specs.Read.{map_byte}
+use Rattle.registers.specs.Map.{place_of}
+use Rattle.blackout.specs.Blackout.{drained_of, woken_of}
+use Rattle.speed_switch.specs.Switch.{switched_of}
+use Rattle.transfer.specs.Pair.{next_byte_of, drain_of}
+use Rattle.engine.specs.Calls.{read_refusal, read_of, read_said, write_refusal, write_of, write_said, write_wram}
+use Rattle.engine.specs.Calls.{fallen, fall_refusal, fall_call_of, fall_said}
+use Rattle.engine.specs.Calls.{next_pair_of, next_pair_said, Lengths, lengths_of, bus_vram, bus_oam, bus_of, arbitrated, arbitration_call_of, arbitration_said}
+use Rattle.engine.specs.Calls.{switch_refusal, switch_call_of, switch_said, blackout_call_of, blackout_said, wake_call_of, wake_said}
+use Rattle.engine.specs.Calls.{escape_drain_of, escape_drain_said, lcd_call_of, retired_call_of, done_said, asked, conflict_found}
+use Rattle.engine.specs.Calls.{inside_arbitration, inside_bus, cycle_oam, cycle_of}
+use Rattle.answers.specs.Answers.{done_values, byte_values, flag_values, claim_values, pair_values, switch_values, arbitration_values, conflict_values}
 use Rattle.ledger.proofs.Answered.{some_answer}
 use Rattle.ledger.specs.Calls
 use Rattle.ledger.specs.Calls.{Call, Outcome, step}
@@ -24,7 +34,10 @@ use Rattle.ledger.specs.LedgerInput.{Configuration}
 use Rattle.ledger.specs.Demand3.{History, from_power_on, then, RunsTo, at_power_on, called}
 use Rattle.ledger.specs.OneRun.{configuration_of, calls_of, RunOf, OneRun}
 use Rattle.ledger.proofs.Tied.{returned_step}
-use Rattle.engine.proofs.Says as told
+use Rattle.answers.proofs.Numbers.{told}
+use Rattle.answers.proofs.Queries.{asked_told}
+use Rattle.bus_calls.proofs.Says.{bus_told, causes_told}
+use Rattle.object_dma_calls.proofs.Cycles.{cycle_told}
 
 -- a slice of these bytes
 slice : List ℕ → Bor (List ℕ)
@@ -63,21 +76,24 @@ sized_four P n f =
 
 module _ (s : Cgb) where
   write_some : (a : ℕ) (w : WriteInput) (byte : _) (wram : List ℕ) → Some s (Calls.write a w (length wram) byte)
-  unfolding lent κ1
+  unfolding lent κ1 write_of write_said
   write_some a w byte wram =
       some_by
       (Code.by_write κ1 (lent wram) a w byte (write_of s w a (length wram))
       (record {
         exit = (s, (lent (write_wram s w a wram), (a, (w, tt))));
-        told = record { result = refl; says = told.write_told s w a (length wram); memory = refl };
+        told = record { result = refl; says = told done_values (write_refusal s w.value (length wram) a) tt; memory = refl };
       }))
 
   read_some : (a : ℕ) (wram : List ℕ) → Some s (Calls.read a (length wram))
-  unfolding slice κ1
+  unfolding slice κ1 read_of read_said
   read_some a wram =
       some_by
       (Code.by_read κ1 (slice wram) a (read_of s wram a)
-      (record { exit = (s, (slice wram, (a, tt))); told = record { is = refl; says = told.read_told s wram a } }))
+      (record {
+        exit = (s, (slice wram, (a, tt)));
+        told = record { is = refl; says = told byte_values (read_refusal s (length wram) a) (map_byte s wram (place_of a)) };
+      }))
 
   bus_some : (i : BusInput) (c w v o : List ℕ) → Some s (Calls.bus_call i (lengths_of c w v o))
   unfolding slice lent κ4
@@ -90,8 +106,8 @@ module _ (s : Cgb) where
         told =
             record {
               result = refl;
-              says = told.bus_told s i c w v o;
-              says_causes = told.causes_told s i c w v o;
+              says = bus_told s i c w v o;
+              says_causes = causes_told s i c w v o;
               stored = refl;
               deposit = refl;
             };
@@ -109,8 +125,8 @@ module _ (s : Cgb) where
         told =
             record {
               result = refl;
-              says = told.bus_told s given c w v o;
-              says_causes = told.causes_told s given c w v o;
+              says = bus_told s given c w v o;
+              says_causes = causes_told s given c w v o;
               stored = refl;
               deposit = refl;
             };
@@ -123,42 +139,52 @@ module _ (s : Cgb) where
       (Code.by_object_dma_cycle κ4 a (slice c) (slice w) (slice v) (lent o) (cycle_of s a c w v o)
       (record {
         exit = (s, (a, (slice c, (slice w, (slice v, (lent (cycle_oam s a (lengths_of c w v o) c w v o), tt))))));
-        told = record { result = refl; says = told.cycle_told s a c w v o; stored = refl };
+        told = record { result = refl; says = cycle_told s a c w v o; stored = refl };
       }))
 
   pub some_call : (c : Call) → Some s c
+  unfolding fall_call_of fall_said next_pair_of next_pair_said escape_drain_of escape_drain_said switch_call_of switch_said lcd_call_of
+      retired_call_of done_said blackout_call_of blackout_said wake_call_of wake_said arbitration_call_of arbitration_said
   some_call (Calls.write a w n byte) = sized (λ k. Some s (Calls.write a w k byte)) n (write_some a w byte)
   some_call (Calls.read a n) = sized (λ k. Some s (Calls.read a k)) n (read_some a)
   some_call (Calls.bus_call i n) = sized_four (λ m. Some s (Calls.bus_call i m)) n (bus_some i)
   some_call (Calls.fall i) =
-      some_by (Code.by_fall i (fall_call_of s i) (record { exit = (s, (i, tt)); told = record { is = refl; says = told.fall_told s i } }))
+      some_by (Code.by_fall i (fall_call_of s i)
+      (record { exit = (s, (i, tt)); told = record { is = refl; says = told claim_values (fall_refusal s i) (fallen s i).claim } }))
   some_call Calls.next_pair =
-      some_by (Code.by_next_pair (next_pair_of s) (record { exit = (s, tt); told = record { is = refl; says = told.next_told s } }))
+      some_by (Code.by_next_pair (next_pair_of s)
+      (record { exit = (s, tt); told = record { is = refl; says = told pair_values (state_refusal s) (next_byte_of s.vram_dma).answer } }))
   some_call Calls.escape_drain =
-      some_by (Code.by_escape_drain (escape_drain_of s) (record { exit = (s, tt); told = record { is = refl; says = told.drain_told s } }))
+      some_by (Code.by_escape_drain (escape_drain_of s)
+      (record { exit = (s, tt); told = record { is = refl; says = told pair_values (state_refusal s) (drain_of s.vram_dma).answer } }))
   some_call (Calls.switch_speed i) =
-      some_by (Code.by_switch_speed i (switch_call_of s i) (record { exit = (s, (i, tt)); told = record { is = refl; says = told.switch_told s i } }))
+      some_by (Code.by_switch_speed i (switch_call_of s i)
+      (record { exit = (s, (i, tt)); told = record { is = refl; says = told switch_values (switch_refusal s i) (switched_of i s).outcome } }))
   some_call Calls.lcd_off =
-      some_by (Code.by_lcd_off (lcd_call_of s) (record { exit = (s, tt); told = record { is = refl; says = told.lcd_told s } }))
+      some_by (Code.by_lcd_off (lcd_call_of s)
+      (record { exit = (s, tt); told = record { is = refl; says = told done_values (state_refusal s) tt } }))
   some_call Calls.retired =
-      some_by (Code.by_retired (retired_call_of s) (record { exit = (s, tt); told = record { is = refl; says = told.retired_told s } }))
+      some_by (Code.by_retired (retired_call_of s)
+      (record { exit = (s, tt); told = record { is = refl; says = told done_values (state_refusal s) tt } }))
   some_call (Calls.blackout elapsed) =
       some_by
       (Code.by_blackout elapsed (blackout_call_of s elapsed)
-      (record { exit = (s, (elapsed, tt)); told = record { is = refl; says = told.blackout_told s elapsed } }))
+      (record { exit = (s, (elapsed, tt)); told = record { is = refl; says = told flag_values (state_refusal s) (drained_of elapsed s).flag } }))
   some_call (Calls.wake boundary) =
       some_by
       (Code.by_wake boundary (wake_call_of s boundary)
-      (record { exit = (s, (boundary, tt)); told = record { is = refl; says = told.wake_told s boundary } }))
+      (record { exit = (s, (boundary, tt)); told = record { is = refl; says = told flag_values (state_refusal s) (woken_of boundary s).flag } }))
   some_call (Calls.arbitrate i) =
-      some_by (Code.by_arbitrate i (arbitration_call_of s i) (record { exit = (s, (i, tt)); told = record { is = refl; says = told.arbitrate_told s i } }))
+      some_by (Code.by_arbitrate i (arbitration_call_of s i)
+      (record { exit = (s, (i, tt)); told = record { is = refl; says = told arbitration_values (state_refusal s) (arbitrated s i).answer } }))
   some_call (Calls.conflict a) =
-      some_by (Code.by_conflict a (conflict_call_of s a) (record { exit = (s, (a, tt)); told = record { is = refl; says = told.conflict_told s a } }))
+      some_by (Code.by_conflict a (asked s (conflict_found s a))
+      (record { exit = (s, (a, tt)); told = record { is = refl; says = asked_told conflict_values s (conflict_found s a) } }))
   some_call (Calls.arbitrate_inside i) =
       let given = inside_arbitration s i in
       some_by
       (Code.by_arbitrate_inside i (arbitration_call_of s given)
-      (record { exit = (s, (i, tt)); told = record { is = refl; says = told.arbitrate_told s given } }))
+      (record { exit = (s, (i, tt)); told = record { is = refl; says = told arbitration_values (state_refusal s) (arbitrated s given).answer } }))
   some_call (Calls.bus_call_inside i n) = sized_four (λ m. Some s (Calls.bus_call_inside i m)) n (bus_inside_some i)
   some_call (Calls.object_dma_cycle a n) = sized_four (λ m. Some s (Calls.object_dma_cycle a m)) n (cycle_some a)
   some_call (Calls.query q) = some_by (Code.by_query q _ (some_answer s q))

@@ -9,16 +9,15 @@ use native.Mathlib.Nat.{eq-zero-or-pos}
 use lib.Dec.{ltb, eqb, lit<}
 use lib.ListN.{length}
 use borrow.Author.Tests.{ltb-true, ltb-false, eqb-true, eqb-false, eq-eqb, ne_eqb}
+use Rattle.std.specs.Prelude.{Some, None}
 use Rattle.console.specs.declared.vram_dma.VramDma.{VramDma}
 use Rattle.bus.specs.Commit.{Taken, after_answer, taken_of, pairs_of, bus_taken}
 use Rattle.bus.specs.declared.commit.BusInput.{BusInput}
-use Rattle.transfer.specs.Pair.{moving_of, pair_of, cause_if, cause_of, advanced_of, next_byte_of, with_quota, drain_of}
+use Rattle.transfer.specs.Pair.{NextAnswer, moving_of, pair_of, cause_if, cause_of, advanced_of, next_byte_of, with_quota, drain_of}
 use Rattle.transfer.specs.PairSteps.{Ready, Moved}
 use Rattle.transfer.specs.declared.pair.BytePair.{BytePair}
 use Rattle.transfer.specs.declared.pair.Cause.{Cause}
 use Rattle.transfer.specs.declared.pair.Cause.TheVariants.{GoingOn, CountedOut, Carried}
-use Rattle.transfer.specs.declared.pair.NextAnswer.{NextAnswer}
-use Rattle.transfer.specs.declared.pair.NextAnswer.TheVariants as next
 use Rattle.transfer.specs.declared.pair.NextByte.{NextByte}
 use Rattle.transfer.proofs.PairSteps.{pair_steps, steps, drained}
 use Rattle.ledger.specs.LedgerInput.{Configuration}
@@ -57,10 +56,10 @@ balance_pair false true lengths frees pairs over off left h e = omega arith
 balance_pair false false lengths frees pairs over off left h e = omega arith
 
 -- the engine takes a pair, or there is none and nothing changes
-decide : (d : VramDma) → Ready d ⊎ (next_byte_of d ≡ record { answer = next.None; dma = d })
+decide : (d : VramDma) → Ready d ⊎ (next_byte_of d ≡ record { answer = None; dma = d })
 decide d = by (ltb 0 d.cursor.quota) (moving_of d) refl refl
   where
-    by : (q m : Bool) → ltb 0 d.cursor.quota ≡ q → moving_of d ≡ m → Ready d ⊎ (next_byte_of d ≡ record { answer = next.None; dma = d })
+    by : (q m : Bool) → ltb 0 d.cursor.quota ≡ q → moving_of d ≡ m → Ready d ⊎ (next_byte_of d ≡ record { answer = None; dma = d })
     by true true q m = inl (record { quota = ltb-true _ _ q; moving = m })
     by false m q h = inr (pair_steps.no_quota d (let none = ltb-false 0 d.cursor.quota q in omega arith))
     by true false q h = inr (pair_steps.not_moving d h)
@@ -164,7 +163,7 @@ module _ (k : Configuration) (locked : Bool) (d : VramDma) (l : Ledger) (m : Mat
             quota = let fell = (subst (λ (x : NextByte). Moved d x.dma) (steps d r) v).quota in omega arith;
           })
 
-      rests : next_byte_of d ≡ record { answer = next.None; dma = d } → Matches d.cursor.quota (next_byte_of d)
+      rests : next_byte_of d ≡ record { answer = None; dma = d } → Matches d.cursor.quota (next_byte_of d)
       rests is =
           subst (Matches d.cursor.quota) (sym is)
           (record { next = no_more; caused = no_cause; agree = m; quota = omega arith })
@@ -201,7 +200,7 @@ taken_match (suc n) k locked d l m =
         PairsMatch k locked (after_pair l) (next_byte_of d).dma.cursor.quota t.pairs t.causes t.dma) →
         (let t = after_answer d a (taken_of n (next_byte_of d).dma) in
         PairsMatch k locked l d.cursor.quota t.pairs t.causes t.dma)
-    by (next.Pair p j) one rest =
+    by (Some (p, j)) one rest =
         let more = rest one.agree in
         let q1 = one.quota in
         let q2 = more.quota in
@@ -211,7 +210,7 @@ taken_match (suc n) k locked d l m =
           agree = more.agree;
           quota = omega arith;
         }
-    by next.None one rest = record { next = no_more; caused = no_cause; agree = m; quota = omega arith }
+    by None one rest = record { next = no_more; caused = no_cause; agree = m; quota = omega arith }
 
 -- a bus call, of whichever kind
 pub bus_match :

@@ -6,17 +6,20 @@ use mathlib.Core.Bool.{Bool, true, false, ◌&&◌}
 use mathlib.Core.List.{List, []}
 use lib.Dec.{eqb, lit<}
 use lib.ListN.{length}
+use borrow.Author.Tests.{eqb-true}
+use Rattle.std.proofs.Common.{None, Ok}
 use Rattle.console.specs.PowerOn.{power_on_of, dma_at_rest}
 use Rattle.console.specs.Reached.{unreached}
+use Rattle.console.specs.Refusals.{number_of}
 use Rattle.console.specs.declared.Cgb.{Cgb}
+use Rattle.console.proofs.Refusals.{number_none}
 use Rattle.bus.specs.Commit.{holds_bus, setup_stands}
 use Rattle.bus.specs.declared.commit.BusInput.{BusInput}
 use Rattle.bus.specs.declared.hold.HoldInput.{HoldInput}
 use Rattle.transfer.specs.Pair.{moving_of, quota_of}
 use Rattle.transfer.specs.declared.VramDmaStatus.TheVariants as dma
 use Rattle.transfer.specs.declared.pair.BytePair.{BytePair}
-use Rattle.engine.specs.Calls.{Lengths, bus_refusal, status_call_of, inside_bus}
-use Rattle.answers.specs.declared.StatusAnswer.TheVariants.{Status}
+use Rattle.engine.specs.Calls.{Lengths, bus_refusal, asked, engine_status, inside_bus}
 use Rattle.ledger.specs.LedgerInput.{Configuration, accepts, is_fall}
 use Rattle.ledger.specs.Ledger.{Ledger, empty, effect}
 use Rattle.ledger.specs.Calls.{Call, Outcome, bus_call, bus_call_inside, BusCall, from_outside, from_inside, step, ledger_input}
@@ -137,13 +140,14 @@ fresh h f s (called {s = t} c o r returned) =
 of_bus :
     (s : Cgb) → unreached s ≡ false → quota s ≡ quota_of (moving_of s.vram_dma) s.double_speed →
     (i : BusInput) (n : Lengths) (o : Outcome) → o ≡ step s (bus_call i n) → accepts o.reply ≡ true →
-    holds_bus i ≡ true → (left : ℕ) → status_call_of s ≡ Status (dma.General left) → setup_stands s.vram_dma ≡ false →
+    holds_bus i ≡ true → (left : ℕ) → asked s (engine_status s) ≡ Ok (dma.General left) → setup_stands s.vram_dma ≡ false →
     length o.reply.pairs ≡ general_pairs s
 unfolding step
 of_bus s passes q i n o is accepted held left general no_cell =
-    let a : eqb (bus_refusal s n) 0 ≡ true = sym (ap (λ (x : Outcome). accepts x.reply) is) ∙ accepted in
+    let a : eqb (number_of (bus_refusal s n)) 0 ≡ true = sym (ap (λ (x : Outcome). accepts x.reply) is) ∙ accepted in
+    let none : bus_refusal s n ≡ None = number_none (bus_refusal s n) (eqb-true (number_of (bus_refusal s n)) 0 a) in
     ap (λ (x : Outcome). length x.reply.pairs) is
-    ∙ ap (λ (ps : List BytePair). length ps) (held_pairs s i n a held no_cell)
+    ∙ ap (λ (ps : List BytePair). length ps) (held_pairs s i n none held no_cell)
     ∙ general_count s passes q (mode_of s left general)
 
 -- a bus call from inside is the bus call with the state's start edge
@@ -154,7 +158,7 @@ inside_is s i n = refl
 pub at_bus :
     (s : Cgb) → unreached s ≡ false → quota s ≡ quota_of (moving_of s.vram_dma) s.double_speed →
     (c : Call) (i : BusInput) → BusCall s c i → (o : Outcome) → Returned s c o → accepts o.reply ≡ true →
-    holds_bus i ≡ true → (left : ℕ) → status_call_of s ≡ Status (dma.General left) → setup_stands s.vram_dma ≡ false →
+    holds_bus i ≡ true → (left : ℕ) → asked s (engine_status s) ≡ Ok (dma.General left) → setup_stands s.vram_dma ≡ false →
     length o.reply.pairs ≡ general_pairs s
 at_bus s passes q c i (from_outside j n) o r = of_bus s passes q j n o (returned_step r)
 at_bus s passes q c i (from_inside j n) o r = of_bus s passes q (inside_bus s j) n o (returned_step r ∙ inside_is s j n)

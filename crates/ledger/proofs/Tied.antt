@@ -2,35 +2,32 @@
 use Prim.Native.Nat.{ℕ, zero, suc, ◌≤◌}
 use native.Mathlib.Omega.{arith}
 use mathlib.Core.Path.{◌≡◌, refl, ap, ◌∙◌}
-use mathlib.Core.Bool.{Bool, true, false, cond}
 use mathlib.Core.List.{List, [], ◌∷◌}
-use lib.Dec.{eqb}
 use lib.ListN.{length, take}
-use borrow.Author.Tests.{eqb-true}
+use Rattle.std.proofs.Common.{Option, Some, None, Result}
 use Rattle.console.specs.Reached.{unreached}
 use Rattle.console.specs.declared.Cgb.{Cgb}
+use Rattle.console.specs.declared.refusal.Refusal.{Refusal}
+use Rattle.console.specs.declared.refusal.Refusal.TheVariants.{State}
 use Rattle.console.specs.declared.vram_dma.VramDma.{VramDma}
-use Rattle.console.specs.Refusals.{◌⇒◌}
+use Rattle.console.specs.Refusals.{◌⇒◌, number_of, answered, kept}
 use Rattle.console.proofs.Reached as seven
 use Rattle.console.proofs.Refusals.{none_holds}
-use Rattle.bus.specs.Commit.{Taken, after_answer, taken_of, pairs_of, bus_taken, first_two, first_causes}
+use Rattle.bus.specs.Commit.{Taken, after_answer, taken_of, pairs_of, bus_taken, first_two}
 use Rattle.bus.proofs.BusSteps.{bus_steps}
 use Rattle.bus.specs.declared.commit.BusInput.{BusInput}
-use Rattle.transfer.specs.Pair.{next_byte_of}
+use Rattle.transfer.specs.Pair.{NextAnswer, next_byte_of}
 use Rattle.transfer.specs.declared.pair.BytePair.{BytePair}
 use Rattle.transfer.specs.declared.pair.Cause.{Cause}
-use Rattle.transfer.specs.declared.pair.NextAnswer.{NextAnswer}
-use Rattle.transfer.specs.declared.pair.NextAnswer.TheVariants as next
+use Rattle.transfer.specs.declared.pair.Cause.TheVariants.{GoingOn}
 use Rattle.bus.specs.Deposit.{no_pair}
 use Rattle.engine.specs.Calls.{read_said, Lengths, lengths_of, taken_in, bus_refusal, bus_pairs, bus_causes, bus_answer, bus_state, bus_of}
+use Rattle.engine.specs.Calls as bus
 use Rattle.engine.specs.Calls.{inside_bus, cycle_said, cycle_of}
-use Rattle.answers.specs.Answers.{Said, bus_says, conflict_says}
-use Rattle.answers.specs.declared.BusAnswer.TheVariants.{Moved, Refused}
-use Rattle.answers.specs.declared.ConflictAnswer.{ConflictAnswer}
+use Rattle.answers.specs.Answers.{Said, says, done_values, flag_values, arbitration_values, moved_values, conflict_values}
 use Rattle.ledger.proofs.Answered.{answered_is}
 use Rattle.ledger.specs.Calls
-use Rattle.ledger.specs.Calls.{Call, Outcome, handing, plain, of_done, of_flagged, of_fell, of_arbitrated, of_handed, of_switched}
-use Rattle.ledger.specs.Calls.{of_bussed, moved_in, moved_causes, step}
+use Rattle.ledger.specs.Calls.{Call, Outcome, handing, plain, of_outcome, of_fell, of_handed, of_switched, of_bussed, moved_in, step}
 use Rattle.ledger.specs.Code.{Returned, by_write, by_read, by_fall, by_next_pair, by_escape_drain, by_bus_call, by_switch_speed}
 use Rattle.ledger.specs.Code.{by_lcd_off, by_retired, by_blackout, by_wake, by_arbitrate, by_conflict, by_query}
 use Rattle.ledger.specs.Code.{by_arbitrate_inside, by_bus_call_inside, by_object_dma_cycle}
@@ -44,8 +41,8 @@ taken_count zero d = omega arith
 taken_count (suc n) d = by (next_byte_of d).answer (taken_count n (next_byte_of d).dma)
   where
     by : (a : NextAnswer) → length (taken_of n (next_byte_of d).dma).pairs ≤ n → length (after_answer d a (taken_of n (next_byte_of d).dma)).pairs ≤ suc n
-    by (next.Pair p k) h = omega arith
-    by next.None h = omega arith
+    by (Some (p, k)) h = omega arith
+    by None h = omega arith
 
 bus_count : (i : BusInput) (d : VramDma) → length (bus_taken i d).pairs ≤ d.cursor.quota
 unfolding pairs_of
@@ -61,55 +58,48 @@ two_places none (a ∷ b ∷ c ∷ more) h = absurd (omega arith)
 
 two_causes :
     (ks : List Cause) (ps : List BytePair) → length ks ≡ length ps → length ps ≤ 2 →
-    take (length ps) ((first_causes ks).first ∷ (first_causes ks).second ∷ []) ≡ ks
-two_causes ks ps same few = rw (← same) (by ks (omega (arith, same, few)))
-  where
-    by : (ks : List Cause) → length ks ≤ 2 → take (length ks) ((first_causes ks).first ∷ (first_causes ks).second ∷ []) ≡ ks
-    by [] h = refl
-    by (a ∷ []) h = refl
-    by (a ∷ b ∷ []) h = refl
-    by (a ∷ b ∷ c ∷ more) h = absurd (omega arith)
+    take (length ps) (first_two GoingOn ks) ≡ ks
+two_causes ks ps same few = rw (← same) (two_places GoingOn ks (omega (arith, same, few)))
 
 module _ (s : Cgb) (i : BusInput) (n : Lengths) where
   -- an accepted bus call is of a state that passes 7
-  accepted_pairs : bus_refusal s n ≡ 0 → length (taken_in s i).pairs ≤ 2
+  accepted_pairs : bus_refusal s n ≡ None → length (taken_in s i).pairs ≤ 2
   unfolding bus_refusal
   accepted_pairs none =
-      let passes = (none_holds ((unreached s ⇒ 7) ∷ reasons_of s (Calls.bus_call i n)) refl none).0 in
+      let passes = (none_holds ((unreached s ⇒ State) ∷ reasons_of s (Calls.bus_call i n)) (ap number_of none)).0 in
       omega (arith, bus_count i s.vram_dma, (seven.reached s passes).engine.quota)
 
   bus_reply :
       ◌≡◌ {A = Outcome}
       (record {
         reply =
-            handing (bus_says (bus_answer s i n)).number (moved_in (bus_answer s i n) (first_two no_pair (bus_pairs s i n)))
-            (moved_causes (bus_answer s i n) (first_causes (bus_causes s i n)));
+            handing (says moved_values (bus_answer s i n)).number (moved_in (bus_answer s i n) (first_two no_pair (bus_pairs s i n)))
+            (moved_in (bus_answer s i n) (first_two GoingOn (bus_causes s i n)));
         state = bus_state s i n;
       })
       (step s (Calls.bus_call i n))
   unfolding step bus_answer bus_pairs bus_causes bus_state
-  bus_reply = by (eqb (bus_refusal s n) 0) refl
+  bus_reply = by (bus_refusal s n) refl
     where
       by :
-          (b : Bool) → eqb (bus_refusal s n) 0 ≡ b →
-          (let a = cond b (Moved (length (taken_in s i).pairs) (taken_in s i).setup) (Refused (bus_refusal s n)) in
-          let ps = cond b (taken_in s i).pairs [] in
-          let ks = cond b (taken_in s i).causes [] in
+          (k : Option Refusal) → bus_refusal s n ≡ k →
+          (let a = answered k (bus.moved_by s i) in
+          let ps = kept k [] (taken_in s i).pairs in
+          let ks = kept k [] (taken_in s i).causes in
           ◌≡◌ {A = Outcome}
           (record {
-            reply = handing (bus_says a).number (moved_in a (first_two no_pair ps)) (moved_causes a (first_causes ks));
+            reply = handing (says moved_values a).number (moved_in a (first_two no_pair ps)) (moved_in a (first_two GoingOn ks));
             state = bus_state s i n;
           })
-          (record { reply = handing (bus_refusal s n) ps ks; state = bus_state s i n }))
-      by true e =
-          let none = eqb-true (bus_refusal s n) 0 e in
+          (record { reply = handing (number_of k) ps ks; state = bus_state s i n }))
+      by None e =
           let each = (bus_steps i s.vram_dma).cause_each in
-          rw (none, two_places no_pair (taken_in s i).pairs (accepted_pairs none), two_causes _ _ each (accepted_pairs none))
-      by false e = refl
+          rw (two_places no_pair (taken_in s i).pairs (accepted_pairs e), two_causes _ _ each (accepted_pairs e))
+      by (Some r) e = refl
 
 pub returned_step : {s : Cgb} {c : Call} {o : Outcome} → Returned s c o → o ≡ step s c
 unfolding step read_said bus_of cycle_said cycle_of
-returned_step (by_write κs wram a w byte r m) = ap of_done m.told.result
+returned_step (by_write κs wram a w byte r m) = ap (of_outcome done_values) m.told.result
 returned_step {s = s} (by_read κs wram a r m) = ap (λ (x : Said). plain x s) m.told.says
 returned_step (by_fall i r m) = ap of_fell m.told.is
 returned_step (by_next_pair r m) = ap of_handed m.told.is
@@ -117,14 +107,14 @@ returned_step (by_escape_drain r m) = ap of_handed m.told.is
 returned_step {s = s} (by_bus_call κs i cartridge wram vram oam r m) =
     ap of_bussed m.told.result ∙ bus_reply s i (lengths_of cartridge.now wram.now vram.now oam.now)
 returned_step (by_switch_speed i r m) = ap of_switched m.told.is
-returned_step (by_lcd_off r m) = ap of_done m.told.is
-returned_step (by_retired r m) = ap of_done m.told.is
-returned_step (by_blackout elapsed r m) = ap of_flagged m.told.is
-returned_step (by_wake boundary r m) = ap of_flagged m.told.is
-returned_step (by_arbitrate i r m) = ap of_arbitrated m.told.is
-returned_step {s = s} (by_conflict a r m) = ap (λ (x : ConflictAnswer). plain (conflict_says x) s) m.told.is
+returned_step (by_lcd_off r m) = ap (of_outcome done_values) m.told.is
+returned_step (by_retired r m) = ap (of_outcome done_values) m.told.is
+returned_step (by_blackout elapsed r m) = ap (of_outcome flag_values) m.told.is
+returned_step (by_wake boundary r m) = ap (of_outcome flag_values) m.told.is
+returned_step (by_arbitrate i r m) = ap (of_outcome arbitration_values) m.told.is
+returned_step {s = s} (by_conflict a r m) = ap (λ (x : Result (Option ℕ) Refusal). plain (says conflict_values x) s) m.told.is
 returned_step {s = s} (by_query q said m) = ap (λ (x : Said). plain x s) (answered_is m)
-returned_step (by_arbitrate_inside i r m) = ap of_arbitrated m.told.is
+returned_step (by_arbitrate_inside i r m) = ap (of_outcome arbitration_values) m.told.is
 returned_step {s = s} (by_bus_call_inside κs i cartridge wram vram oam r m) =
     ap of_bussed m.told.result ∙ bus_reply s (inside_bus s i) (lengths_of cartridge.now wram.now vram.now oam.now)
 returned_step (by_object_dma_cycle κs a cartridge wram vram oam r m) = λ k. plain (m.told.says k) (m.told.result k).state

@@ -11,8 +11,7 @@ use Rattle.hdma.specs.Pointers.{with_high, with_low}
 use Rattle.hdma.proofs.Written as hdma
 use Rattle.registers.specs.Map.{KEY0, KEY1, VBK, HDMA1, HDMA2, HDMA3, HDMA4, HDMA5, SVBK, FF72, FF73, FF74, FF75}
 use Rattle.registers.specs.Map.{Place, work_ram, banked_ram, extra_oam, register, dma_start, unmapped, place_of, within, writable, locks, locks_at}
-use Rattle.map_write.specs.Write.{with_source, with_dest, state_at, stored_of, map_write_of}
-use Rattle.map_write.specs.declared.MapWritten.{MapWritten}
+use Rattle.map_write.specs.Write.{MapWritten, with_source, with_dest, state_at, stored_of, map_write_of}
 use Rattle.map_write.specs.declared.WriteInput.{WriteInput}
 use Rattle.ledger.specs.LedgerInput.{Configuration}
 use Rattle.ledger.specs.Ledger.{Ledger, high_byte, low_byte, with_pointers, after_write}

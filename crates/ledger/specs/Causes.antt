@@ -1,6 +1,6 @@
 -- How the run goes on (document 02, A3), of every list of calls from power-on: each pair's cause is the one that the ledger gives in
 -- front of it. Beside demand 3, whose pairs are sources and destinations alone.
-use Rattle.std.specs.Prelude.{ℕ, ◌<◌, ◌≡◌, true, false, cond, not, ◌&&◌, List, [], ◌∷◌, ◌↔◌, eqb}
+use Rattle.std.specs.Prelude.{◌<◌, ◌≡◌, true, false, cond, not, ◌&&◌, List, [], ◌∷◌, ◌↔◌, eqb}
 use Rattle.console.specs.declared.Cgb.{Cgb}
 use Rattle.answers.specs.Answers.{cause_number}
 use Rattle.transfer.specs.declared.pair.BytePair.{BytePair}

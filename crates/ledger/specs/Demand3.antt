@@ -1,14 +1,13 @@
 -- Demand 3, of every list of calls from power-on, refused ones included: what the public functions can have done, and the
 -- ledger beside them.
-use Rattle.std.specs.Prelude.{ℕ, ◌+◌, ◌≤◌, ◌<◌, ◌≡◌, Bool, true, false, cond, ◌&&◌, List, [], ◌∷◌, eqb, length}
+use Rattle.std.specs.Prelude.{ℕ, ◌+◌, ◌≤◌, ◌<◌, ◌≡◌, Bool, true, false, cond, ◌&&◌, List, [], ◌∷◌, eqb, length, Ok}
 use Rattle.console.specs.declared.Cgb.{Cgb}
 use Rattle.bus.specs.Commit.{holds_bus, setup_stands}
 use Rattle.bus.specs.declared.commit.BusInput.{BusInput}
 use Rattle.transfer.specs.Pair.{left_after}
 use Rattle.transfer.specs.declared.VramDmaStatus.TheVariants as dma
 use Rattle.transfer.specs.declared.pair.BytePair.{BytePair}
-use Rattle.engine.specs.Calls.{status_call_of, at_double_speed}
-use Rattle.answers.specs.declared.StatusAnswer.TheVariants.{Status}
+use Rattle.engine.specs.Calls.{asked, engine_status, at_double_speed}
 use Rattle.ledger.specs.LedgerInput.{Configuration, Reply, accepts, is_fall, is_drain}
 use Rattle.ledger.specs.Ledger.{Ledger, empty, IsNext, after_pair, effect, after_call}
 use Rattle.ledger.specs.Calls.{Call, Outcome, BusCall, ledger_input}
@@ -93,7 +92,7 @@ pub record Demand3 : Type 0 where
   pub general :
       (h : History) (f : Event) (s : Cgb) → RunsTo (then h f) s → accepted_fall f ≡ true →
       (c : Call) (i : BusInput) → BusCall s c i → (o : Outcome) → Returned s c o → accepts o.reply ≡ true →
-      holds_bus i ≡ true → (left : ℕ) → status_call_of s ≡ Status (dma.General left) → setup_stands s.vram_dma ≡ false →
+      holds_bus i ≡ true → (left : ℕ) → asked s (engine_status s) ≡ Ok (dma.General left) → setup_stands s.vram_dma ≡ false →
       length o.reply.pairs ≡ general_pairs s
   -- besides: the pointers and the owed escape are the ledger's too, the pointers are 16-bit registers, and no run meets refusal 7
   pub same_pointers :

@@ -44,18 +44,7 @@ followed a =
     (cond (eqb a 0xFF53) dest_high (cond (eqb a 0xFF54) dest_low (cond (eqb a 0xFF55) transfer_length elsewhere))))
 
 abbrev pub with_pointers : ℕ → ℕ → Ledger → Ledger
-with_pointers source dest l =
-    record {
-      source = source;
-      dest = dest;
-      left = l.left;
-      free = l.free;
-      pairs = l.pairs;
-      lengths = l.lengths;
-      free_pairs = l.free_pairs;
-      overwritten = l.overwritten;
-      cut_off = l.cut_off;
-    }
+with_pointers source dest l = record l { source = source; dest = dest }
 
 -- "the high byte", "the low byte, with its low four bits zero"
 abbrev pub high_byte : ℕ → ℕ → ℕ
@@ -66,18 +55,7 @@ low_byte v pointer = (pointer - pointer % 256) + (v - v % 16)
 
 -- "lengths written gains the new left and overwritten the left in front of that FF55 write"
 abbrev pub after_length : ℕ → Ledger → Ledger
-after_length new l =
-    record {
-      source = l.source;
-      dest = l.dest;
-      left = new;
-      free = l.free;
-      pairs = l.pairs;
-      lengths = l.lengths + new;
-      free_pairs = l.free_pairs;
-      overwritten = l.overwritten + l.left;
-      cut_off = l.cut_off;
-    }
+after_length new l = record l { left = new; lengths = l.lengths + new; overwritten = l.overwritten + l.left }
 
 -- "Accepted, unlocked FF51–FF55 writes act as in section 1"
 abbrev pub after_write : Followed → ℕ → Ledger → Ledger
@@ -90,18 +68,7 @@ after_write elsewhere v l = l
 
 -- "A cut sets free."
 abbrev pub after_cut : Bool → Ledger → Ledger
-after_cut cut l =
-    record {
-      source = l.source;
-      dest = l.dest;
-      left = l.left;
-      free = cut || l.free;
-      pairs = l.pairs;
-      lengths = l.lengths;
-      free_pairs = l.free_pairs;
-      overwritten = l.overwritten;
-      cut_off = l.cut_off;
-    }
+after_cut cut l = record l { free = cut || l.free }
 
 -- what an accepted call does besides its pairs; "unlocked means power-on without compat"
 abbrev pub effect : Configuration → LedgerInput → Reply → Ledger → Ledger
@@ -122,15 +89,13 @@ unfoldable pub after_pair : Ledger → Ledger
 after_pair l =
     let left = cond l.free l.left (l.left - 1) in
     let carries = eqb l.dest 0xFFFF in
-    record {
+    record l {
       source = (l.source + 1) % 65536;
       dest = cond carries 0 (l.dest + 1);
       left = cond carries 0 left;
       free = false;
       pairs = l.pairs + 1;
-      lengths = l.lengths;
       free_pairs = l.free_pairs + cond l.free 1 0;
-      overwritten = l.overwritten;
       cut_off = l.cut_off + cond carries left 0;
     }
 

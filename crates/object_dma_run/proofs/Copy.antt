@@ -17,8 +17,8 @@ use Rattle.console.proofs.Reached as seven
 use Rattle.bus.specs.Source.{object_byte}
 use Rattle.bus.specs.declared.arbitration.Arbitration.TheVariants.{Clear}
 use Rattle.answers.specs.declared.Cycled.{Cycled}
-use Rattle.answers.specs.declared.Done.{Done}
-use Rattle.map_write.specs.declared.MapWritten.{MapWritten}
+use Rattle.answers.specs.declared.Outcome.{Outcome}
+use Rattle.map_write.specs.Write.{MapWritten}
 use Rattle.map_write.specs.declared.WriteInput.{WriteInput}
 use Rattle.map_write.proofs.WriteSteps.{map_write_steps}
 use Rattle.register_calls.proofs.AccessSteps.{access_steps}
@@ -112,7 +112,7 @@ unfolding place_of
 after_write s w wram reached low whole =
     let steps = access_steps s w 0xFF46 wram in
     let free = steps.write_refusals.otherwise reached whole (inl refl) ∙ steps.page_refusals.page refl low in
-    ap (λ (r : Done). r.state) (steps.write free).0
+    ap (λ (r : Outcome (Unit {0})). r.state) (steps.write free).0
     ∙ ap (λ (r : MapWritten). r.state) (map_write_steps.dma s w).starts
 
 pub copies :

@@ -6,14 +6,13 @@ use mathlib.Core.Bool.{Bool, true, false}
 use mathlib.Core.List.{List}
 use lib.Dec.{ltb}
 use borrow.Author.Tests.{lt-ltb, le-ltb, ltb-true, ltb-false}
+use Rattle.std.proofs.Common.{None, Ok}
 use Rattle.console.specs.declared.Cgb.{Cgb}
 use Rattle.console.specs.declared.object.ObjectDma.{ObjectDma}
 use Rattle.bus.specs.declared.arbitration.Arbitration.{Arbitration}
 use Rattle.bus.specs.declared.arbitration.Arbitration.TheVariants as given
-use Rattle.bus.specs.declared.arbitration.ArbitrationInput.{ArbitrationInput}
-use Rattle.bus.specs.declared.commit.BusInput.{BusInput}
 use Rattle.bus.specs.declared.hold.HoldInput.{HoldInput}
-use Rattle.answers.specs.declared.CycleAnswer.TheVariants.{Nothing, Moved}
+use Rattle.answers.specs.declared.Cycle.TheVariants.{Nothing, Moved}
 use Rattle.answers.specs.declared.Cycled.{Cycled}
 use Rattle.bus_calls.specs.BusCallSteps.{WholeSlices}
 use Rattle.engine.specs.Calls.{lengths_of, inside_arbitration, inside_bus, cycle_refusal, cycle_of, cycle_oam}
@@ -50,21 +49,21 @@ module _ (h : History) (s : Cgb) (r : RunsTo h s) (page edge n : ℕ) (is : star
   object_is = object_state r ∙ ap object_at is
 
   module _ (cartridge wram vram oam : List ℕ) (slices : WholeSlices (lengths_of cartridge wram vram oam)) where
-    zero : (a : Arbitration) → cycle_refusal s (lengths_of cartridge wram vram oam) ≡ 0
+    zero : (a : Arbitration) → cycle_refusal s (lengths_of cartridge wram vram oam) ≡ None
     zero a = (cycle_laws.refusals s a cartridge wram vram oam).accepted (invariant r).reached slices
 
     source_is : n < 160 → s.object_dma.page * 256 + s.object_dma.counted ≡ page * 256 + n
     unfolding object_at
     source_is low = ap (λ (o : ObjectDma). o.page * 256 + o.counted) object_is ∙ ap (λ (k : ℕ). page * 256 + k) (least n low)
 
-    moves_next : n < 160 → (cycle_of s given.Clear cartridge wram vram oam).answer ≡ Moved (page * 256 + n)
+    moves_next : n < 160 → (cycle_of s given.Clear cartridge wram vram oam).answer ≡ Ok (Moved (page * 256 + n))
     moves_next low =
         let steps = cycle_laws.accepted s cartridge wram vram oam (zero given.Clear) in
-        ap (λ (c : Cycled). c.answer) (steps.clear (ap runs object_is ∙ run_below page edge n low)).0 ∙ ap Moved (source_is low)
+        ap (λ (c : Cycled). c.answer) (steps.clear (ap runs object_is ∙ run_below page edge n low)).0 ∙ ap (λ (k : ℕ). Ok (Moved k)) (source_is low)
 
     none_after :
         160 ≤ n → (a : Arbitration) →
-        (cycle_of s a cartridge wram vram oam ≡ record { answer = Nothing; byte = 0; state = s }) ×
+        (cycle_of s a cartridge wram vram oam ≡ record { answer = Ok Nothing; byte = 0; state = s }) ×
         (cycle_oam s a (lengths_of cartridge wram vram oam) cartridge wram vram oam ≡ oam)
     none_after high a = (cycle_laws.accepted s cartridge wram vram oam (zero a)).rests (ap runs object_is ∙ run_over page edge n high) a
 

@@ -1,9 +1,7 @@
 -- The bus is shared for one M-cycle past the 160th byte, and no longer (specs, `OneMore`). Assumes nothing.
-use Prim.Native.Nat.{ℕ, ◌+◌}
-use native.Mathlib.Omega.{arith}
-use mathlib.Core.Path.{◌≡◌, refl, sym, ap, subst, ◌∙◌}
-use mathlib.Core.Bool.{Bool, true, false, cond, false≢true}
-use mathlib.Core.Logic.{◌⊎◌, inl, inr, ⊎_elim}
+use mathlib.Core.Path.{◌≡◌, refl, sym, ap, ◌∙◌}
+use mathlib.Core.Bool.{Bool, true, false, false≢true}
+use mathlib.Core.Logic.{inr, ⊎_elim}
 use Rattle.console.specs.Reached.{unreached}
 use Rattle.console.specs.Set.{with_vram_dma, with_dma_oam, with_object_dma}
 use Rattle.console.specs.declared.Cgb.{Cgb}
@@ -23,17 +21,17 @@ use Rattle.fall_stages.specs.Fall.{settled_of, started_of, halt_latch_of, probat
 use Rattle.fall_stages.specs.Fall.{readiness_of, pend_of, tenure_of, commit_of, fall_of}
 use Rattle.fall_stages.specs.declared.FallInput.{FallInput}
 use Rattle.fall_stages.proofs.Steps.{Course, settled, gated, overflowed, served, course}
-use Rattle.object_dma.specs.ObjectDma.{runs, after_byte}
+use Rattle.object_dma.specs.ObjectDma.{runs}
 use Rattle.answers.proofs.Numbers.{state_passes}
 use Rattle.bus_calls.specs.BusCallSteps.{WholeSlices}
 use Rattle.bus_calls.proofs.BusCallSteps.{bus_refusals}
 use Rattle.bus_calls.proofs.SharedBusSteps.{shared_bus_steps}
-use Rattle.engine.specs.Calls.{Lengths, bus_refusal, taken_in, bus_state, arbitrated, arbitration_call_of, inside_arbitration, inside_bus}
+use Rattle.engine.specs.Calls.{Lengths, taken_in, bus_state, arbitrated, arbitration_call_of, inside_arbitration, inside_bus}
 use Rattle.engine.specs.Calls.{fallen_state, counts_byte, after_cycle, cycle_state}
 use Rattle.ledger.specs.Calls.{Outcome, fall, arbitrate_inside, bus_call_inside, object_dma_cycle, step}
 use Rattle.ledger.proofs.AcceptedOrDeclined.{either_way}
 use Rattle.ledger.proofs.Keeps.{step_keeps}
-use Rattle.object_dma_run.specs.Shared.{answer_in, given_in, after_m_cycle}
+use Rattle.object_dma_run.specs.Shared.{given_in, after_m_cycle}
 use Rattle.object_dma_run.specs.ObjectDmaRun.{LastByte, BetweenCycles, OneMore}
 
 -- ---- a bus call leaves what arbitration keeps

@@ -8,11 +8,11 @@ use borrow.Author.Tests.{ltb-true, ltb-false, le-ltb}
 use Rattle.console.specs.PowerOn.{power_on_of}
 use Rattle.console.specs.declared.Cgb.{Cgb}
 use Rattle.console.specs.declared.object.ObjectDma.{ObjectDma}
+use Rattle.console.proofs.Refusals.{some_number}
 use Rattle.registers.specs.Map.{Place, work_ram, banked_ram, extra_oam, register, dma_start, unmapped, place_of, writable, locks, locks_at}
 use Rattle.registers.specs.Map.{KEY0, KEY1, VBK, HDMA1, HDMA2, HDMA3, HDMA4, HDMA5, SVBK, FF72, FF73, FF74, FF75}
 use Rattle.registers.proofs.MapSteps.{starts_dma, starts_at}
-use Rattle.map_write.specs.Write.{state_at, stored_of, map_write_of}
-use Rattle.map_write.specs.declared.MapWritten.{MapWritten}
+use Rattle.map_write.specs.Write.{MapWritten, state_at, stored_of, map_write_of}
 use Rattle.map_write.specs.declared.WriteInput.{WriteInput}
 use Rattle.blackout.specs.Blackout.{drained_of, woken_of}
 use Rattle.speed_switch.specs.Switch.{switched_of}
@@ -131,7 +131,7 @@ module _ (s : Cgb) where
   Entered c o = o.state.object_dma ≡ cond (accepts o.reply) (applied (object_input c) s.object_dma) s.object_dma
 
   pub object_step : (c : Call) → Entered c (step s c)
-  object_step c = either_way s (Entered c) c (λ none. given c) (λ number. rw number)
+  object_step c = either_way s (Entered c) c (λ none. given c) (λ r. rw (some_number r))
 
 -- ---- the same told by H
 -- a cycle more: one is counted until 160 are

@@ -1,5 +1,5 @@
 -- What is shown of object DMA over runs (document 02, A1).
-use Rattle.std.specs.Prelude.{ℕ, ◌+◌, ◌*◌, ◌<◌, ◌≤◌, ◌≡◌, Bool, true, false, List, ◌↔◌, length, get_or}
+use Rattle.std.specs.Prelude.{ℕ, ◌+◌, ◌*◌, ◌<◌, ◌≤◌, ◌≡◌, true, false, List, ◌↔◌, length, get_or, Ok}
 use Rattle.console.specs.Reached.{unreached}
 use Rattle.console.specs.Set.{with_object_dma}
 use Rattle.console.specs.declared.Cgb.{Cgb}
@@ -12,8 +12,7 @@ use Rattle.bus.specs.declared.hold.HoldInput.{HoldInput}
 use Rattle.fall_stages.specs.declared.FallInput.{FallInput}
 use Rattle.map_write.specs.declared.WriteInput.{WriteInput}
 use Rattle.object_dma.specs.ObjectDma.{runs}
-use Rattle.answers.specs.declared.ArbitrationAnswer.TheVariants.{Clear, Contended}
-use Rattle.answers.specs.declared.CycleAnswer.TheVariants.{Nothing, Moved}
+use Rattle.answers.specs.declared.Cycle.TheVariants.{Nothing, Moved}
 use Rattle.bus_calls.specs.BusCall.{banks_of}
 use Rattle.bus_calls.specs.BusCallSteps.{WholeSlices}
 use Rattle.engine.specs.Calls.{write_of, Lengths, lengths_of, inside_arbitration, inside_bus, cycle_of, cycle_oam}
@@ -21,7 +20,7 @@ use Rattle.ledger.specs.Calls.{Call, fall, step}
 use Rattle.ledger.specs.Demand3.{History, RunsTo}
 use Rattle.object_dma_run.specs.Copy.{CopyState, clear_cycles}
 use Rattle.object_dma_run.specs.Shared.{answer_in, after_m_cycle}
-use Rattle.object_dma_run.specs.Since.{Start, none, since, start_of, object_at, transfers_at, edge_at}
+use Rattle.object_dma_run.specs.Since.{none, since, start_of, object_at, transfers_at, edge_at}
 
 -- 160 clear M-cycle calls with nothing between, after a write of page p with edge e at the state s
 pub record Copies (s : Cgb) (p e : ℕ) (cartridge wram vram oam : List ℕ) (r : CopyState) : Type 0 where
@@ -53,9 +52,9 @@ pub record OneMore (s t u : Cgb) (i j k : HoldInput) (n : Lengths) : Type 0 wher
   -- after the M-cycle of the 160th byte object DMA is at rest
   pub rests : runs (after_m_cycle s i n).object_dma ≡ false
   -- in the next one the bus is contended exactly if the engine holds it and moves a byte
-  pub shared : (answer_in t j ≡ Contended) ↔ (HdmaActive (inside_arbitration t j) × WillMove t.vram_dma)
+  pub shared : (answer_in t j ≡ Ok given.Contended) ↔ (HdmaActive (inside_arbitration t j) × WillMove t.vram_dma)
   -- in the one after that it is clear
-  pub over : answer_in u k ≡ Clear
+  pub over : answer_in u k ≡ Ok given.Clear
 
 pub record ObjectDmaRun : Type 0 where
   -- object DMA after every list of calls, by the last accepted write to FF46 and the M-cycle calls since then that were accepted and
@@ -71,11 +70,11 @@ pub record ObjectDmaRun : Type 0 where
   pub moves_next :
       (h : History) (s : Cgb) → RunsTo h s → (page edge n : ℕ) → start_of h ≡ since page edge n → n < 160 →
       (cartridge wram vram oam : List ℕ) → WholeSlices (lengths_of cartridge wram vram oam) →
-      (cycle_of s given.Clear cartridge wram vram oam).answer ≡ Moved (page * 256 + n)
+      (cycle_of s given.Clear cartridge wram vram oam).answer ≡ Ok (Moved (page * 256 + n))
   pub none_after :
       (h : History) (s : Cgb) → RunsTo h s → (page edge n : ℕ) → start_of h ≡ since page edge n → 160 ≤ n →
       (a : Arbitration) (cartridge wram vram oam : List ℕ) → WholeSlices (lengths_of cartridge wram vram oam) →
-      (cycle_of s a cartridge wram vram oam ≡ record { answer = Nothing; byte = 0; state = s }) ×
+      (cycle_of s a cartridge wram vram oam ≡ record { answer = Ok Nothing; byte = 0; state = s }) ×
       (cycle_oam s a (lengths_of cartridge wram vram oam) cartridge wram vram oam ≡ oam)
   -- what arbitration and the bus call from inside are told: whether it runs, and the edge of the last write, at rest too
   pub transfers :

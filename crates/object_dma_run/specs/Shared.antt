@@ -1,13 +1,14 @@
 -- The bus that object DMA's last byte shares: an M-cycle by the forms from inside, in the manual's order (arbitration, the M-cycle call
 -- with its answer, the bus call).
+use Rattle.std.specs.Prelude.{Result}
 use Rattle.console.specs.declared.Cgb.{Cgb}
+use Rattle.console.specs.declared.refusal.Refusal.{Refusal}
 use Rattle.bus.specs.declared.arbitration.Arbitration.{Arbitration}
 use Rattle.bus.specs.declared.hold.HoldInput.{HoldInput}
-use Rattle.answers.specs.declared.ArbitrationAnswer.{ArbitrationAnswer}
 use Rattle.engine.specs.Calls.{Lengths, arbitrated, arbitration_call_of, bus_state, inside_arbitration, inside_bus, cycle_state}
 
 -- arbitration's answer in the M-cycle that begins at s
-abbrev pub answer_in : Cgb → HoldInput → ArbitrationAnswer
+abbrev pub answer_in : Cgb → HoldInput → Result Arbitration Refusal
 answer_in s i = (arbitration_call_of s (inside_arbitration s i)).answer
 
 -- the same without a refusal, as the M-cycle call takes it

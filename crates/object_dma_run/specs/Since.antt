@@ -6,7 +6,7 @@ use Rattle.bus.specs.declared.arbitration.Arbitration.{Arbitration}
 use Rattle.bus.specs.declared.arbitration.Arbitration.TheVariants.{Clear, Contended, Stall}
 use Rattle.ledger.specs.Calls.{Call, write, read, fall, next_pair, escape_drain, bus_call, switch_speed, lcd_off, retired, blackout, wake}
 use Rattle.ledger.specs.Calls.{arbitrate, conflict, query, arbitrate_inside, bus_call_inside, object_dma_cycle}
-use Rattle.ledger.specs.Demand3.{Event, History, from_power_on, then}
+use Rattle.ledger.specs.Demand3.{History, from_power_on, then}
 use Rattle.ledger.specs.LedgerInput.{accepts}
 
 -- of a call: a write to FF46 with its page and edge, an M-cycle call that is not given stall, or any other

@@ -7,13 +7,15 @@ use lib.Dec.{ltb}
 use mathlib.Core.List.{List, [], ◌∷◌}
 use lib.ListN as list
 use borrow.Author.Tests.{lt-ltb, le-ltb, not-false}
+use Rattle.std.proofs.Common.{Some, None, Ok}
 use Rattle.console.specs.Modes.{is_hblank}
 use Rattle.console.specs.PowerOn.{power_on_of, dma_at_rest}
 use Rattle.console.specs.Reached.{unreached, Reached}
 use Rattle.console.specs.declared.Cgb.{Cgb}
 use Rattle.console.specs.declared.vram_dma.TransferMode.TheVariants as mode
 use Rattle.console.specs.Set.{with_ff_72, with_ff_73, with_ff_74, with_ff_75, with_svbk}
-use Rattle.console.specs.Refusals.{Reason, ◌⇒◌}
+use Rattle.console.specs.Refusals.{Reason, ◌⇒◌, number_of}
+use Rattle.console.specs.declared.refusal.Refusal.TheVariants.{Phase, Held, State, Blackout, Unarmed, Deferred, Page}
 use Rattle.console.proofs.Reached.{reached, passes, reached_with_svbk}
 use Rattle.console.proofs.Refusals.{none_holds}
 use Rattle.hdma.specs.Hdma5.{hdma5_written, armed_of, cancelled_of, general_started, status_byte, visible}
@@ -21,8 +23,7 @@ use Rattle.transfer.specs.Questions.{write_address, seizes_bus}
 use Rattle.registers.specs.Map.{place_of, readable, writable, banked_ram, locks_at}
 use Rattle.memory.specs.Lengths.{wram_length}
 use Rattle.memory.specs.Wram as port
-use Rattle.map_write.specs.Write.{state_at, with_source, with_dest, map_write_of, stored_of}
-use Rattle.map_write.specs.declared.MapWritten.{MapWritten}
+use Rattle.map_write.specs.Write.{MapWritten, state_at, with_source, with_dest, map_write_of, stored_of}
 use Rattle.map_write.specs.declared.WriteInput.{WriteInput}
 use Rattle.map_write.proofs.WriteSteps.{map_write_steps}
 use Rattle.hdma.proofs.Written.{keeps, arms, disarms, starts}
@@ -39,10 +40,9 @@ use Rattle.fall_stages.specs.Fall.{fall_of, ran_of, decided_of, served_of}
 use Rattle.transfer.specs.Pair.{moving_of}
 use Rattle.speed_switch.specs.Switch.{switched_of, blackout_of}
 use Rattle.speed_switch.specs.declared.switch.SwitchInput.{SwitchInput}
-use Rattle.answers.specs.declared.ByteAnswer.TheVariants.{Byte}
-use Rattle.answers.specs.declared.Done.{Done}
+use Rattle.answers.specs.declared.Outcome.{Outcome}
 use Rattle.register_calls.proofs.Accepted.{read_accepted, write_accepted, write_unlocked}
-use Rattle.register_calls.proofs.Says.{at_21}
+use Rattle.register_calls.proofs.Refusals.{at_21}
 use Rattle.pan_docs.specs.PanDocs as pan
 use Rattle.pan_docs.specs.Agreement.{CgbMode, Whole, state_after_write, transferring, Reads, Agreement, Difference}
 use Rattle.pan_docs.proofs.Bits as bits
@@ -152,7 +152,7 @@ module _ (s : Cgb) (m : CgbMode s) where
   running_reads n armed granted left some few wram whole =
       let seen : visible s.vram_dma ≡ n = omega arith in
       status_reads s m wram whole ∙
-      rw (seen, ap is_hblank armed, lt-ltb 0 n some) (ap Byte (bits.running n some few))
+      rw (seen, ap is_hblank armed, lt-ltb 0 n some) (ap Ok (bits.running n some few))
 
   complete_reads : s.vram_dma.cursor.remaining ≡ 0 → Reads s 0xFF55 pan.hdma5_complete
   unfolding status_byte
@@ -170,7 +170,7 @@ module _ (s : Cgb) (m : CgbMode s) (v : ℕ) (lcd : Bool) (edge : ℕ) where
 
   banked_reads :
       (i : ℕ) (wram : List ℕ) → Whole wram → i < 4096 →
-      read_of (state_after_write 0xFF70 v lcd edge s) wram (0xD000 + i) ≡ Byte (list.get_or wram (pan.work_ram_bank v * 4096 + i) 0)
+      read_of (state_after_write 0xFF70 v lcd edge s) wram (0xD000 + i) ≡ Ok (list.get_or wram (pan.work_ram_bank v * 4096 + i) 0)
   unfolding place_of
   banked_reads i wram whole h =
       rw (written s m 0xFF70 v lcd edge refl refl)
@@ -195,7 +195,7 @@ module _ (s : Cgb) (m : CgbMode s) (v : ℕ) (lcd : Bool) (edge : ℕ) where
   unfolding place_of unreached
   ff75_reads wram whole =
       rw (written s m 0xFF75 v lcd edge refl refl)
-      (read_accepted (with_ff_75 (v / 16 % 8 * 16) s) m.reached 0xFF75 refl wram whole ∙ ap Byte (bits.ff75 v))
+      (read_accepted (with_ff_75 (v / 16 % 8 * 16) s) m.reached 0xFF75 refl wram whole ∙ ap Ok (bits.ff75 v))
 
 ff74_locked : (s : Cgb) → unreached s ≡ false → s.dmg_compat ≡ true → Reads s 0xFF74 0xFF
 unfolding place_of
@@ -203,24 +203,24 @@ ff74_locked s r compat wram whole = read_accepted s r 0xFF74 refl wram whole ∙
 
 module _ (s : Cgb) (i : SwitchInput) where
   switch_flips :
-      switch_refusal s i ≡ 0 →
+      switch_refusal s i ≡ None →
       ((switch_call_of s i).state.double_speed ≡ not s.double_speed) × ((switch_call_of s i).state.key1_armed ≡ false)
   unfolding switch_call_of switched_of
   switch_flips accepted = (rw accepted, rw accepted)
 
   -- where a switch is accepted none of its reasons to decline holds: the fifth is that it is not armed
-  switch_armed : switch_refusal s i ≡ 0 → s.key1_armed ≡ true
+  switch_armed : switch_refusal s i ≡ None → s.key1_armed ≡ true
   unfolding switch_refusal
-  switch_armed accepted = not-false s.key1_armed (none_holds reasons refl accepted).1.1.1.1.0
+  switch_armed accepted = not-false s.key1_armed (none_holds reasons (ap number_of accepted)).1.1.1.1.0
     where
       reasons : List Reason
       reasons =
-          (unreached s ⇒ 7) ∷
-          (ltb 4 i.dot_phase ⇒ 3) ∷
-          (i.hold ⇒ 5) ∷
-          (ltb 0 s.speed_switch_blackout ⇒ 11) ∷
-          (not s.key1_armed ⇒ 12) ∷
-          (defers s ⇒ 13) ∷ []
+          (unreached s ⇒ State) ∷
+          (ltb 4 i.dot_phase ⇒ Phase) ∷
+          (i.hold ⇒ Held) ∷
+          (ltb 0 s.speed_switch_blackout ⇒ Blackout) ∷
+          (not s.key1_armed ⇒ Unarmed) ∷
+          (defers s ⇒ Deferred) ∷ []
 
 -- ---- object DMA
 dma_starts :
@@ -228,10 +228,10 @@ dma_starts :
     (state_after_write 0xFF46 p lcd edge s).object_dma ≡ transferring p 0 edge
 unfolding place_of
 dma_starts s p lcd edge reached low =
-    ap (λ (r : Done). r.state.object_dma) (write_accepted s reached 0xFF46 (input p lcd edge) refl (le-ltb 0xDF p low))
+    ap (λ (r : Outcome (Unit {0})). r.state.object_dma) (write_accepted s reached 0xFF46 (input p lcd edge) refl (le-ltb 0xDF p low))
     ∙ ap (λ (r : MapWritten). r.state.object_dma) (map_write_steps.dma s (input p lcd edge)).starts
 
-dma_above : (s : Cgb) (p : ℕ) → unreached s ≡ false → pan.last_page < p → write_refusal s p wram_length 0xFF46 ≡ 21
+dma_above : (s : Cgb) (p : ℕ) → unreached s ≡ false → pan.last_page < p → write_refusal s p wram_length 0xFF46 ≡ Some Page
 dma_above s p reached high = at_21 s p wram_length 0xFF46 reached refl (lt-ltb 0xDF p high)
 
 pub agreement : Agreement

@@ -1,21 +1,20 @@
 -- Where the port's calls agree with Pan Docs, fact by fact (`Agreement`), and where they do not (`Difference`): of the rows
 -- of docs/DIFFERENCES.md, part II, those whose run needs no bus call; the other rows name what holds them. The calls are
 -- the engine's, on any state that passes refusal 7, in CGB mode unless said otherwise.
-use Rattle.std.specs.Prelude.{ℕ, ◌+◌, ◌-◌, ◌*◌, ◌<◌, ◌≤◌, ◌≡◌, Bool, true, false, not, List}
+use Rattle.std.specs.Prelude.{ℕ, ◌+◌, ◌-◌, ◌*◌, ◌<◌, ◌≤◌, ◌≡◌, Bool, true, false, not, List, Some, None, Ok, Err}
 use Rattle.std.proofs.Math.ListN as list
 use Rattle.console.specs.Modes.{is_hblank}
 use Rattle.console.specs.PowerOn.{power_on_of}
 use Rattle.console.specs.Reached.{unreached}
 use Rattle.console.specs.declared.Cgb.{Cgb}
 use Rattle.console.specs.declared.object.ObjectDma.{ObjectDma}
+use Rattle.console.specs.declared.refusal.Refusal.TheVariants.{Held, Page}
 use Rattle.console.specs.declared.vram_dma.TransferMode.TheVariants as mode
 use Rattle.memory.specs.Lengths.{wram_length}
 use Rattle.transfer.specs.Questions.{write_address}
 use Rattle.estimate.specs.Estimate.{estimate_of, estimated_cycles}
 use Rattle.object_dma.specs.ObjectDma.{runs, source_of, target_of, after_byte}
 use Rattle.engine.specs.Calls.{write_refusal, read_of, write_of, fall_call_of, switch_refusal, switch_call_of}
-use Rattle.answers.specs.declared.ByteAnswer.TheVariants.{Byte}
-use Rattle.answers.specs.declared.SwitchAnswer.TheVariants.{Refused}
 use Rattle.fall_stages.specs.declared.FallInput.{FallInput}
 use Rattle.speed_switch.specs.declared.switch.SwitchInput.{SwitchInput}
 use Rattle.memory.specs.Wram as port
@@ -39,7 +38,7 @@ transferring p k edge = record { running = true; page = p; counted = k; start_ed
 
 -- a read of an address gives a byte, whatever work RAM holds
 abbrev pub Reads : Cgb → ℕ → ℕ → Type 0
-Reads s a v = (wram : List ℕ) → Whole wram → read_of s wram a ≡ Byte v
+Reads s a v = (wram : List ℕ) → Whole wram → read_of s wram a ≡ Ok v
 
 pub record Agreement : Type 0 where
   -- KEY0 is locked
@@ -53,10 +52,10 @@ pub record Agreement : Type 0 where
       ((state_after_write 0xFF4D v lcd edge s).double_speed ≡ s.double_speed)
   -- an accepted switch changes the speed, both directions alike, and bit 0 is then 0 again
   pub switch_flips :
-      (s : Cgb) (i : SwitchInput) → switch_refusal s i ≡ 0 →
+      (s : Cgb) (i : SwitchInput) → switch_refusal s i ≡ None →
       ((switch_call_of s i).state.double_speed ≡ not s.double_speed) × ((switch_call_of s i).state.key1_armed ≡ false)
   -- and it happens only with bit 0 set
-  pub switch_armed : (s : Cgb) (i : SwitchInput) → switch_refusal s i ≡ 0 → s.key1_armed ≡ true
+  pub switch_armed : (s : Cgb) (i : SwitchInput) → switch_refusal s i ≡ None → s.key1_armed ≡ true
   -- VBK selects by bit 0, and reads it back
   pub vbk_selects : (s : Cgb) (v : ℕ) (lcd : Bool) (edge : ℕ) → CgbMode s → (state_after_write 0xFF4F v lcd edge s).vram.selected ≡ pan.bit_at 0 v
   pub vbk_reads : (s : Cgb) → CgbMode s → Reads s 0xFF4F (pan.vbk s.vram.selected)
@@ -99,12 +98,12 @@ pub record Agreement : Type 0 where
       (s : Cgb) (v : ℕ) (lcd : Bool) (edge : ℕ) → CgbMode s → port.wram_bank (state_after_write 0xFF70 v lcd edge s).svbk ≡ pan.work_ram_bank v
   pub banked_reads :
       (s : Cgb) (v i : ℕ) (lcd : Bool) (edge : ℕ) (wram : List ℕ) → CgbMode s → Whole wram → i < 4096 →
-      read_of (state_after_write 0xFF70 v lcd edge s) wram (0xD000 + i) ≡ Byte (list.get_or wram (pan.work_ram_bank v * 4096 + i) 0)
+      read_of (state_after_write 0xFF70 v lcd edge s) wram (0xD000 + i) ≡ Ok (list.get_or wram (pan.work_ram_bank v * 4096 + i) 0)
   -- DMA starts from the page written, with or without compat; one above the last is declined
   pub dma_starts :
       (s : Cgb) (p : ℕ) (lcd : Bool) (edge : ℕ) → unreached s ≡ false → p ≤ pan.last_page →
       (state_after_write 0xFF46 p lcd edge s).object_dma ≡ transferring p 0 edge
-  pub dma_above : (s : Cgb) (p : ℕ) → unreached s ≡ false → pan.last_page < p → write_refusal s p wram_length 0xFF46 ≡ 21
+  pub dma_above : (s : Cgb) (p : ℕ) → unreached s ≡ false → pan.last_page < p → write_refusal s p wram_length 0xFF46 ≡ Some Page
   -- it runs for 160 bytes, the one with the number k from its place of the page to its place in OAM (`Copies` of `object_dma_run` tells of all)
   pub dma_moves :
       (p k edge : ℕ) → k < pan.page_bytes →
@@ -171,7 +170,7 @@ pub record Difference : Type 0 where
       ((switch_call_of (state_after_write 0xFF4D 0x01 true 0 (power_on_of false)) (attempt false)).state.speed_switch_blackout ≡ 131077) ×
       (pan.switch_mcycles ≡ 2050)
   -- a switch is declined under hold, where Pan Docs has a STOP with bit 0 set switch
-  pub switch_held : (switch_call_of (state_after_write 0xFF4D 0x01 true 0 (power_on_of false)) (attempt true)).answer ≡ Refused 5
+  pub switch_held : (switch_call_of (state_after_write 0xFF4D 0x01 true 0 (power_on_of false)) (attempt true)).answer ≡ Err Held
   -- FF4F is not locked under compat, where a locked register reads FF
   pub vbk_unlocked : Reads (power_on_of true) 0xFF4F 0xFE
   -- FF70 reads back the written 0, and FF4C reads 00, of which Pan Docs says nothing

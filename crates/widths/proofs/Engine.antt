@@ -2,6 +2,7 @@
 use Prim.Native.Nat.{ℕ, zero, suc, ◌<◌, ◌^◌}
 use mathlib.Core.Bool.{Bool, true, false, cond, not, ◌&&◌, ◌||◌}
 use lib.Dec.{ltb, leb, eqb, lit<}
+use Rattle.std.specs.Prelude.{Some, None}
 use Rattle.console.specs.Modes.{is_hblank}
 use Rattle.console.specs.declared.vram_dma.HaltArbiter.{HaltArbiter}
 use Rattle.console.specs.declared.vram_dma.HblankBlock.{HblankBlock}
@@ -24,10 +25,8 @@ use Rattle.hdma.specs.Hdma5.{hdma5_written, armed_of, cancelled_of}
 use Rattle.cut.specs.Cut as switch
 use Rattle.cut.specs.Cut.{ungranted, cut_of, discarded_of, graded_of, upward_of, engine_after}
 use Rattle.transfer.specs.Latch.{latches_dark, latched_block, latched_of, unclaimed, lcd_disabled_of}
-use Rattle.transfer.specs.Pair.{moving_of, block_after, arb_after, advanced_of, with_quota, next_byte_of, drain_of}
+use Rattle.transfer.specs.Pair.{NextAnswer, moving_of, block_after, arb_after, advanced_of, with_quota, next_byte_of, drain_of}
 use Rattle.transfer.specs.Questions.{seizes_bus}
-use Rattle.transfer.specs.declared.pair.NextAnswer.{NextAnswer}
-use Rattle.transfer.specs.declared.pair.NextAnswer.TheVariants as next
 use Rattle.transfer.specs.declared.pair.NextByte.{NextByte}
 use Rattle.ledger.proofs.BusKinds.{of_each}
 use Rattle.widths.proofs.Numbers.{pick, saturated, less}
@@ -308,8 +307,8 @@ taken (suc n) d f = by (next_byte_of d).answer (taken n (next_byte_of d).dma (ne
     by :
         (a : NextAnswer) → EngineFits (taken_of n (next_byte_of d).dma).dma →
         EngineFits (after_answer d a (taken_of n (next_byte_of d).dma)).dma
-    by (next.Pair p k) more = more
-    by next.None more = f
+    by (Some (p, k)) more = more
+    by None more = f
 
 pub bus_fits : (i : BusInput) (d : VramDma) → EngineFits d → EngineFits (bus_taken i d).dma
 unfolding pairs_of

@@ -6,22 +6,20 @@ use mathlib.Core.Path.{◌≡◌, sym, subst}
 use mathlib.Core.Bool.{Bool, true, false, cond, not}
 use mathlib.Core.List.{List}
 use lib.Dec.{eqb, lit<}
+use Rattle.std.proofs.Common.{Option, Some, None}
 use Rattle.codec.specs.Fits.{Bytes, Fits}
 use Rattle.codec.specs.Rest.{latency_value}
 use Rattle.codec.proofs.RoundTrip.{round_trip}
 use Rattle.console.specs.PowerOn.{power_on_of, dma_at_rest}
 use Rattle.console.specs.Set.{with_vram_dma}
 use Rattle.console.specs.declared.Cgb.{Cgb}
-use Rattle.console.specs.declared.WakeLatency.{WakeLatency}
-use Rattle.console.specs.declared.WakeLatency.TheVariants as latency
 use Rattle.console.specs.declared.vram_dma.VramDma.{VramDma}
 use Rattle.console.proofs.Reached as seven
 use Rattle.registers.specs.Map.{KEY0, KEY1, VBK, HDMA1, HDMA2, HDMA3, HDMA4, HDMA5, SVBK, FF72, FF73, FF74, FF75}
 use Rattle.registers.specs.Map.{Place, work_ram, banked_ram, extra_oam, register, dma_start, unmapped, place_of, writable}
-use Rattle.map_write.specs.Write.{state_at, locked, stored_of, map_write_of}
-use Rattle.map_write.specs.declared.MapWritten.{MapWritten}
+use Rattle.map_write.specs.Write.{MapWritten, state_at, locked, stored_of, map_write_of}
 use Rattle.map_write.specs.declared.WriteInput.{WriteInput}
-use Rattle.blackout.specs.Blackout.{latency_after_wake, drained_of, woken_of}
+use Rattle.blackout.specs.Blackout.{latency_after_drain, latency_after_wake, drained_of, woken_of}
 use Rattle.speed_switch.specs.Switch.{blackout_of, switched_of}
 use Rattle.object_dma_calls.proofs.CycleSteps.{cycle_keeps}
 use Rattle.engine.specs.Calls.{fallen_state, inside_bus, after_cycle}
@@ -164,14 +162,14 @@ blackout_bound false true false = lit< tt
 blackout_bound false false true = lit< tt
 blackout_bound false false false = lit< tt
 
-forgotten : (b : Bool) (l : WakeLatency) → latency_value l < 256 → latency_value (cond b latency.None l) < 256
+forgotten : (b : Bool) (l : Option ℕ) → latency_value l < 256 → latency_value (latency_after_drain b l) < 256
 forgotten true l h = lit< tt
 forgotten false l h = h
 
-nearer : (b : Bool) (l : WakeLatency) → latency_value l < 256 → latency_after_wake b l < 256
-nearer b latency.None h = lit< tt
-nearer true (latency.Some n) h = less n 256 1 h
-nearer false (latency.Some n) h = h
+nearer : (b : Bool) (l : Option ℕ) → latency_value l < 256 → latency_after_wake b l < 256
+nearer b None h = lit< tt
+nearer true (Some n) h = less n 256 1 h
+nearer false (Some n) h = h
 
 -- ---- every call
 module _ (s : Cgb) (f : Small s) where

@@ -1,6 +1,6 @@
 -- Of every list of calls whose inputs have their types' widths: the state that it leaves has them too, so that it comes back from
 -- its bytes.
-use Rattle.std.specs.Prelude.{◌≡◌, true}
+use Rattle.std.specs.Prelude.{◌≡◌, Some}
 use Rattle.codec.specs.Codec.{encode_of, decode_of}
 use Rattle.codec.specs.Fits.{Fits}
 use Rattle.console.specs.declared.Cgb.{Cgb}
@@ -9,4 +9,4 @@ use Rattle.widths.specs.Inputs.{FitsHistory}
 
 pub record Widths : Type 0 where
   pub fits : (h : History) (s : Cgb) → RunsTo h s → FitsHistory h → Fits s
-  pub comes_back : (h : History) (s : Cgb) → RunsTo h s → FitsHistory h → decode_of (encode_of s) ≡ record { valid = true; state = s }
+  pub comes_back : (h : History) (s : Cgb) → RunsTo h s → FitsHistory h → decode_of (encode_of s) ≡ Some s
