@@ -1,16 +1,16 @@
 -- What the judge answers on whole scripts and logs, however they are cut (specs, `JudgesInParts`). Assumes nothing.
-use Prim.Native.Nat.{ℕ, zero, suc, ◌+◌, ◌*◌, ◌/◌, ◌%◌, ◌^◌, ◌≤◌, ◌<◌}
+use Prim.Native.Nat.{ℕ, suc, ◌+◌, ◌*◌, ◌/◌, ◌%◌, ◌^◌, ◌≤◌, ◌<◌}
 use mathlib.Core.Path.{◌≡◌, refl, sym, ap, ◌∙◌, subst}
 use mathlib.Core.Bool.{Bool, true, false, cond, false≢true}
 use mathlib.Core.List.{List, [], ◌∷◌, ◌++◌, append-nil}
-use mathlib.Core.Logic.{◌↔◌, ◌⊎◌, inl, inr, ⊎_elim}
+use mathlib.Core.Logic.{◌⊎◌, inl, inr, ⊎_elim}
 use native.Mathlib.Omega.{arith}
 use lib.ListN.{length, drop, length-append, length-drop}
 use lib.Dec.{eqb}
 use borrow.Author.Tests.{eq-eqb, eqb-true}
 use Rattle.text.proofs.Order.{below_or_not}
 use Rattle.board_log.specs.Records.{nth_record, whole_in_both}
-use Rattle.board_log.specs.OwnLog.{wram_at_start, at_power_on, own_record, log_of}
+use Rattle.board_log.specs.OwnLog.{wram_at_start, log_of}
 use Rattle.board_log.specs.Judging.{Hearing, hearing_of, begun, hearing_begun, judged_records, Feeds}
 use Rattle.board_log.specs.Verdict.{verdict_of}
 use Rattle.board_log.specs.JudgesInParts.{Shown, none_shown, part, Comparable, FirstWrong, Judges, Ended, JudgesInParts}

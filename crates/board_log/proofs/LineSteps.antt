@@ -1,17 +1,17 @@
 -- The numbers of a replay's line (specs, `LineSteps`). Assumes nothing.
 use Prim.Native.Nat.{ℕ, suc}
 use mathlib.Core.Path.{◌≡◌, refl, sym, ap, ◌∙◌}
-use mathlib.Core.Bool.{Bool, true, false, cond, not, ◌&&◌, false≢true}
+use mathlib.Core.Bool.{Bool, true, false, not, ◌&&◌, false≢true}
 use mathlib.Core.List.{List, []}
-use mathlib.Core.Logic.{◌⊎◌, inl, inr}
+use mathlib.Core.Logic.{inl, inr}
 use native.Mathlib.Omega.{arith}
 use lib.Dec.{eqb}
 use borrow.Author.Tests.{eq-eqb}
 use Rattle.console.specs.declared.Cgb.{Cgb}
 use Rattle.perform.specs.Record.{record_performed}
 use Rattle.perform.proofs.Declined.{declined_call}
-use Rattle.record.specs.declared.Coded.{Coded}
-use Rattle.record.specs.declared.Coded.TheVariants.{Call, Unknown}
+use Rattle.std.proofs.Common.{Option, Some, None}
+use Rattle.call.specs.declared.Call.{Call}
 use Rattle.told.specs.declared.Told.{Told}
 use Rattle.replay_step.specs.Record.{record_at_start}
 use Rattle.replay_step.specs.Step.{line_of, pair_line_of, told_pair, step_of}
@@ -19,10 +19,10 @@ use Rattle.board_log.specs.OwnLog.{ReplayPoint, record_step, LineSteps}
 
 -- a declined call told no pair
 none_told :
-    (s : Cgb) (wram : List ℕ) (k : Coded) → let told = (record_performed s k [] wram [] []).told in (told.refusal ≡ 0 → ⊥) → told.v0 ≡ 0
+    (s : Cgb) (wram : List ℕ) (k : Option Call) → let told = (record_performed s k [] wram [] []).told in (told.refusal ≡ 0 → ⊥) → told.v0 ≡ 0
 unfolding record_performed
-none_told s wram (Call c) refused = ap (λ (t : Told). t.v0) (declined_call s wram [] [] c [] refused).number_alone
-none_told s wram Unknown refused = refl
+none_told s wram (Some c) refused = ap (λ (t : Told). t.v0) (declined_call s wram [] [] c [] refused).number_alone
+none_told s wram None refused = refl
 
 by_told :
     (refusal : ℕ) (hands : Bool) (told : Told) (s : Cgb) (came : Bool) → (hands && not (eqb told.v0 0)) ≡ came →

@@ -4,7 +4,8 @@ ghost use Rattle.board_log.specs.Judging.{begun};
 
 use console::Cgb;
 
-// The engine's state after the records judged so far; how many of them, from the first on, are the engine's; and whether one is not.
+// The engine's state after the records judged so far; how many of them, from the first on, are the engine's; and whether one is not: the count stands
+// either way, so no Option.
 #[derive(Clone, Copy)]
 pub struct Judge {
     pub state: Cgb,
@@ -12,7 +13,7 @@ pub struct Judge {
     pub differs: bool,
 }
 
-// The judge after a part, and how many bytes it took of script and log each.
+// The judge after a part, and how many bytes it took of script and log each: both always stand.
 #[derive(Clone, Copy)]
 pub struct Fed {
     pub judge: Judge,

@@ -5,5 +5,5 @@ ghost use Rattle.std.specs.Prelude.{◌*◌, ◌/◌, min, ◌≡◌};
 pub fn whole_in_both(a: usize, b: usize) -> usize
     ensures { result ≡ min (a / 16) (b / 16) * 16 }
 {
-    if a < b { a / 16 * 16 } else { b / 16 * 16 }
+    a.min(b) / 16 * 16
 }

@@ -1,9 +1,10 @@
 // The judge's answer, and its line.
-ghost use Rattle.std.specs.Prelude.{◌≡◌, [], ◌∷◌, ◌++◌};
-ghost use Rattle.text.specs.Text.{decimal, line_feed, Put};
+ghost use Rattle.std.specs.Prelude.{◌≡◌};
+ghost use Rattle.text.specs.Text.{Pushed};
 ghost use Rattle.board_log.specs.Verdict.{verdict_of, verdict_text};
 
 use crate::judging::Judge;
+use text::Text;
 
 // Every record is the engine's; the number from 0 of the first that is not; or 22.
 #[derive(Clone, Copy)]
@@ -27,20 +28,17 @@ pub fn conclude(j: Judge, script_left: usize, log_left: usize) -> Verdict
     Verdict::Yes
 }
 
-fn put_number(out: &mut [u8], at: usize, number: u64) -> usize
-    ensures { Put out.old at (decimal number ++ line_feed ∷ []) result out.new }
-{
-    let to = text::put_decimal(out, at, number);
-    text::put(out, to, b'\n')
-}
-
+// Not as Display, whose fmt would say nothing of the characters.
 #[tactic(auto, unfolding(crate::specs::Verdict::verdict_text))]
-pub fn put_verdict(out: &mut [u8], at: usize, verdict: Verdict) -> usize
-    ensures { Put out.old at (verdict_text verdict) result out.new }
+pub fn push_verdict(text: &mut Text, verdict: Verdict)
+    ensures { Pushed text.old (verdict_text verdict) text.new }
 {
     match verdict {
-        Verdict::Yes => text::put_text(out, at, b"yes\n"),
-        Verdict::Wrong(number) => put_number(out, at, number),
-        Verdict::Refused => text::put_text(out, at, b"refused 22\n"),
+        Verdict::Yes => text.push_text(b"yes\n"),
+        Verdict::Wrong(number) => {
+            text.push_decimal(number);
+            text.push(b'\n');
+        }
+        Verdict::Refused => text.push_text(b"refused 22\n"),
     }
 }

@@ -1,2 +1,2 @@
-pub mod Seams
+pub mod Shows
 pub mod TurnIsPart

@@ -1,5 +1,5 @@
 -- A step of the replay and a comparison are what the judge makes of a record. Assumes nothing.
-use Rattle.std.proofs.Common.{◌≡◌, ℕ, ◌+◌, ◌-◌, ◌*◌, ◌/◌, ◌%◌, ◌^◌, Bool, true, false, not, ◌||◌, List, take, drop, sym, ap, ◌∙◌}
+use Rattle.std.proofs.Common.{◌≡◌, ℕ, ◌+◌, ◌%◌, ◌^◌, Bool, true, false, not, ◌||◌, List, ◌∙◌, add-one}
 use Rattle.arithmetic.specs.Number.{same_bytes}
 use Rattle.replay_step.specs.Record.{record_at_start}
 use Rattle.replay_step.specs.Step.{Steps}
@@ -10,7 +10,6 @@ use Rattle.board_log.specs.Records.{nth_record}
 use Rattle.board_log.specs.OwnLog.{record_step, point_after}
 use Rattle.board_log.specs.Judging.{Hearing, hearing_of, point, is_own, judged_record, judged_records}
 use Rattle.board_log.specs.declared.judging.Judge.{Judge}
-use Rattle.log_parts.proofs.Parts.{next_record, one_more}
 
 module _
     (j : Judge) (wram entry logged after : List ℕ) (e : Record) (t : Stepped) (same : Bool)
@@ -29,14 +28,8 @@ module _
   unfolding judged_record is_own point point_after record_step
   agreeing count counted d = rw (← read, ← performed.result, ← performed.memory, ← compared, d, counted)
 
--- one record more of script and log, at i bytes
+-- one record more of script and log
 pub judged_more :
-    (s t u : Hearing) (script log : List ℕ) (i : ℕ) → i / 16 * 16 ≡ i → t ≡ judged_records s script log (i / 16) →
-    u ≡ judged_record t (take ((i + 16) - i) (drop i script)) (take ((i + 16) - i) (drop i log)) →
-    u ≡ judged_records s script log ((i + 16) / 16)
-judged_more s t u script log i whole before now =
-    now
-    ∙ ap (λ (x : List ℕ). judged_record t x (take ((i + 16) - i) (drop i log))) (next_record script i whole)
-    ∙ ap (λ (x : List ℕ). judged_record t (nth_record script (i / 16)) x) (next_record log i whole)
-    ∙ ap (λ (x : Hearing). judged_record x (nth_record script (i / 16)) (nth_record log (i / 16))) before
-    ∙ ap (λ (n : ℕ). judged_records s script log n) (sym (one_more i))
+    (s t u : Hearing) (script log asked logged : List ℕ) (k m : ℕ) → m ≡ k + 1 → asked ≡ nth_record script k → logged ≡ nth_record log k →
+    t ≡ judged_records s script log k → u ≡ judged_record t asked logged → u ≡ judged_records s script log m
+judged_more s t u script log asked logged k m more asks logs before now = rw (more, add-one k) (now ∙ rw (asks, logs, before))

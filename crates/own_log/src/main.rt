@@ -3,7 +3,7 @@
 // that of the whole input: bytes behind the last whole record, an input that cannot be read, an output that cannot be written.
 #![tactic(auto)]
 
-ghost use Rattle.std.specs.Prelude.{◌<◌, ◌≤◌, ◌≡◌, length, take};
+ghost use Rattle.std.specs.Prelude.{◌<◌, ◌≡◌, length};
 ghost use Rattle.own_log.specs.Turn.{LogTurns};
 
 use console::Cgb;
@@ -11,49 +11,36 @@ use log_parts::log_part;
 use std::env::FillError;
 use std::io::{Read, Write};
 use std::rt::Env;
+use stream::Buffer;
 
-// After a read: the engine's state, how many bytes wait at the front of the buffer, how many reads may still come, and whether the
-// input could not be read or the output not be written.
+// What keeps the log from being that of the whole input, besides a short record at its end.
 #[derive(Clone, Copy)]
-struct Turned {
-    state: Cgb,
-    waiting: usize,
-    turns: u64,
-    unread: bool,
-    unwritten: bool,
+enum Failure {
+    ScriptNotRead,
+    LogNotWritten,
 }
 
-// One read: the log of the records that are whole then is written, and the rest goes to the front.
+// One read: the log of the records that are whole then is written, and the rest waits. Whether another may follow: not after the input's end.
 fn turn<R: Read, W: Write>(
     input: &mut R,
     output: &mut W,
-    state: Cgb,
-    waiting: usize,
-    turns: u64,
-    buf: &mut [u8],
+    state: &mut Cgb,
+    buf: &mut Buffer<65536>,
     out: &mut [u8],
     wram: &mut [u8],
-) -> Turned
-    requires { (waiting < 16) × (length buf.old ≡ 65536) × (length out.old ≡ 65536) × (0 < turns) }
-    ensures rest { (result.waiting < 16) × (result.turns < turns) }
-    ensures logged { LogTurns state wram.old (take waiting buf.old) out.old result buf.new wram.new out.new }
+) -> Result<bool, Failure>
+    requires { length out.old ≡ 65536 }
+    ensures rest { length buf.new < 16 }
+    ensures logged { LogTurns state.old wram.old buf.old out.old state.new buf.new wram.new out.new }
 {
-    let filled = stream::fill(input, buf, waiting);
-    let bytes = filled.bytes;
-    let unread = filled.failed;
-    let logged = log_part::put_log(state, &buf[0..bytes], out, wram);
-    let after = logged.state;
-    let taken = logged.taken;
-    let written = stream::flush(output, out, taken);
-    let later = stream::fewer(turns, (bytes > waiting) & written);
-    let left = stream::to_front(buf, taken, bytes);
-    Turned {
-        state: after,
-        waiting: left,
-        turns: later,
-        unread: unread,
-        unwritten: !written,
-    }
+    let came = buf.read(input).map_err(|_| Failure::ScriptNotRead);
+    let logged = log_part::put_log(*state, buf.waiting(), out, wram);
+    *state = logged.state;
+    buf.take(logged.taken);
+    output
+        .write_all(&out[..logged.taken])
+        .map_err(|_| Failure::LogNotWritten)?;
+    Ok(came? != 0)
 }
 
 // Nothing is left to say where standard error cannot be written.
@@ -63,54 +50,35 @@ fn say_short(rt: &impl Eprint, bytes: usize) {
     );
 }
 
-fn say_line(rt: &impl Eprint, line: &str) {
+fn say_failure(rt: &impl Eprint, failure: Failure) {
+    let line = match failure {
+        Failure::ScriptNotRead => "script could not be read",
+        Failure::LogNotWritten => "log could not be written",
+    };
     let _ = eprintln!(rt; "own_log: the {line} to its end");
 }
 
-// What keeps the log from being that of the whole input, if anything does.
-fn say(rt: &impl Eprint, waiting: usize, unread: bool, unwritten: bool) {
-    if unwritten {
-        say_line(rt, "log could not be written");
-        return;
-    }
-    if unread {
-        say_line(rt, "script could not be read");
-        return;
-    }
-    if waiting != 0 {
-        say_short(rt, waiting);
-    }
-}
-
-fn log_input(rt: &HostRuntime) {
+// The log of the whole input, and how many bytes of a short record stand at its end.
+fn log_input(rt: &HostRuntime) -> Result<usize, Failure> {
     let mut input = rt.stdin();
     let mut output = rt.stdout();
-    let mut buf = [0u8; 65536];
+    let mut buf = Buffer::new();
     let mut out = [0u8; 65536];
     let mut wram = [0u8; 32768];
     let mut state = console::power_on::power_on(false);
-    let mut waiting: usize = 0;
-    let mut unread = false;
-    let mut unwritten = false;
-    let mut turns = u64::MAX;
-    while turns > 0 {
-        let t = turn(
+    for _ in 0..u64::MAX {
+        if !turn(
             &mut input,
             &mut output,
-            state,
-            waiting,
-            turns,
+            &mut state,
             &mut buf,
             &mut out,
             &mut wram,
-        );
-        state = t.state;
-        waiting = t.waiting;
-        unread = t.unread;
-        unwritten = t.unwritten;
-        turns = t.turns;
+        )? {
+            break;
+        }
     }
-    say(rt, waiting, unread, unwritten);
+    Ok(buf.waiting().len())
 }
 
 // Whether there is an argument behind the program's own name, which is number 0.
@@ -124,5 +92,9 @@ fn main(rt: HostRuntime) {
         let _ = eprintln!(rt; "usage: own_log <SCRIPT >LOG");
         return;
     }
-    log_input(&rt);
+    match log_input(&rt) {
+        Ok(0) => {}
+        Ok(bytes) => say_short(&rt, bytes),
+        Err(failure) => say_failure(&rt, failure),
+    }
 }

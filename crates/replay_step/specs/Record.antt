@@ -1,9 +1,8 @@
 -- A replay record (document 01, section 6): "records of 16 bytes, no header, little-endian. Byte 0 is the kind: 1 write .., 2 fall ..,
 -- 3 next pair, 4 switch .., 5 LCD off, 6 escape drain, 7 blackout ..". The layout is record's.
-use Rattle.std.specs.Prelude.{ℕ, Bool, false, cond, ◌||◌, List, eqb, ltb, length}
+use Rattle.std.specs.Prelude.{ℕ, None, Bool, false, cond, ◌||◌, List, eqb, ltb, length}
 use Rattle.arithmetic.specs.Number.{byte_at}
 use Rattle.record.specs.Record.{call_of}
-use Rattle.record.specs.declared.Coded.TheVariants.{Unknown}
 use Rattle.replay_step.specs.declared.read.Record.{Record}
 
 -- next pair and escape drain
@@ -11,7 +10,7 @@ abbrev pub hands_pair : ℕ → Bool
 hands_pair kind = eqb kind 3 || eqb kind 6
 
 abbrev pub no_record : Record
-no_record = record { call = Unknown; hands_pair = false }
+no_record = record { call = None; hands_pair = false }
 
 -- the replay has the kinds 1 to 7
 unfoldable pub record_of : List ℕ → Record

@@ -1,15 +1,14 @@
 -- What a record does (document 01, section 6): "from power-on without compat"; "Each line: record from 0, refusal or 0, pairs,
 -- left, FF55 in two capitals". 6 is a "replay record of other kind or short". Document 02, A3: a pair's cause, "0, 1 or 2, zero
 -- without a pair".
-use Rattle.std.specs.Prelude.{ℕ, ◌≡◌, Bool, cond, not, ◌&&◌, List, [], eqb}
+use Rattle.std.specs.Prelude.{ℕ, ◌≡◌, Bool, cond, not, ◌&&◌, List, [], Option, Some, None, eqb}
 use Rattle.console.specs.declared.Cgb.{Cgb}
 use Rattle.hdma.specs.Hdma5.{status_byte}
 use Rattle.perform.specs.Record.{record_performed, record_wram}
 use Rattle.told.specs.declared.Told.{Told}
 use Rattle.replay_step.specs.declared.read.Record.{Record}
 use Rattle.replay_step.specs.declared.step.Stepped.{Stepped}
-use Rattle.replay_step.specs.declared.step.ToldPair.{ToldPair}
-use Rattle.replay_step.specs.declared.step.ToldPair.TheVariants.{Pair, None}
+use Rattle.transfer.specs.declared.pair.BytePair.{BytePair}
 
 -- left and FF55 are those after the record
 abbrev pub line : ℕ → ℕ → ℕ → ℕ → ℕ → Cgb → Stepped
@@ -33,14 +32,14 @@ unfoldable pub line_of : ℕ → Cgb → Stepped
 line_of refusal s = line refusal 0 0 0 0 s
 
 -- a call that may hand out a pair
-unfoldable pub pair_line_of : ℕ → ToldPair → Cgb → Stepped
-pair_line_of refusal (Pair p cause) s = line refusal 1 p.source p.dest cause s
+unfoldable pub pair_line_of : ℕ → Option (BytePair × ℕ) → Cgb → Stepped
+pair_line_of refusal (Some p) s = line refusal 1 p.0.source p.0.dest p.1 s
 pair_line_of refusal None s = line_of refusal s
 
 -- the pair that a call told: it is one that hands out a pair, and told 1, its source, its destination and its cause
-unfoldable pub told_pair : Bool → Told → ToldPair
+unfoldable pub told_pair : Bool → Told → Option (BytePair × ℕ)
 told_pair hands told =
-    cond (hands && not (eqb told.v0 0)) (Pair (record { source = told.v1; dest = told.v2 }) told.v3) None
+    cond (hands && not (eqb told.v0 0)) (Some (record { source = told.v1; dest = told.v2 }, told.v3)) None
 
 -- a record at a state: its call, with no memory but work RAM
 unfoldable pub step_of : Cgb → List ℕ → Record → Stepped

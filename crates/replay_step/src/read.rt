@@ -1,15 +1,13 @@
 // A replay record: 16 bytes, of the kinds 1 to 7 alone.
 ghost use Rattle.std.specs.Prelude.{◌≡◌};
-ghost use Rattle.arithmetic.specs.Number.{bytes_at};
 ghost use Rattle.replay_step.specs.Record.{no_record, record_of, record_at_start};
 
-use memory::byte_at;
-use record::Coded;
+use call::Call;
 
 // The call, and whether it is one that hands out a pair.
 #[derive(Clone, Copy)]
 pub struct Record {
-    pub call: Coded,
+    pub call: Option<Call>,
     pub hands_pair: bool,
 }
 
@@ -17,33 +15,9 @@ fn none() -> Record
     ensures { result ≡ no_record }
 {
     Record {
-        call: Coded::Unknown,
+        call: None,
         hands_pair: false,
     }
-}
-
-// The first 16 bytes, 0 where there are fewer.
-pub fn sixteen(bytes: &[u8]) -> [u8; 16]
-    ensures { result ≡ bytes_at bytes.now 0 16 }
-{
-    [
-        byte_at(bytes, 0),
-        byte_at(bytes, 1),
-        byte_at(bytes, 2),
-        byte_at(bytes, 3),
-        byte_at(bytes, 4),
-        byte_at(bytes, 5),
-        byte_at(bytes, 6),
-        byte_at(bytes, 7),
-        byte_at(bytes, 8),
-        byte_at(bytes, 9),
-        byte_at(bytes, 10),
-        byte_at(bytes, 11),
-        byte_at(bytes, 12),
-        byte_at(bytes, 13),
-        byte_at(bytes, 14),
-        byte_at(bytes, 15),
-    ]
 }
 
 #[tactic(auto, unfolding(crate::specs::Record::record_of))]
@@ -54,9 +28,8 @@ fn of_sixteen(bytes: [u8; 16]) -> Record
     if kind > 7 {
         return none();
     }
-    let call = record::decode(bytes);
     Record {
-        call: call,
+        call: record::decode(bytes),
         hands_pair: (kind == 3) | (kind == 6),
     }
 }
@@ -66,8 +39,8 @@ fn of_sixteen(bytes: [u8; 16]) -> Record
 pub fn record_of(bytes: &[u8]) -> Record
     ensures { result ≡ record_at_start bytes.now }
 {
-    if bytes.len() < 16 {
-        return none();
+    match bytes.first_chunk::<16>() {
+        Some(sixteen) => of_sixteen(*sixteen),
+        None => none(),
     }
-    of_sixteen(sixteen(bytes))
 }

@@ -20,13 +20,6 @@ pub struct Line {
     pub cause: u16,
 }
 
-// The pair that a call told, with the number of its cause.
-#[derive(Clone, Copy)]
-pub enum ToldPair {
-    Pair(BytePair, u16),
-    None,
-}
-
 #[derive(Clone, Copy)]
 pub struct Stepped {
     pub line: Line,
@@ -38,61 +31,51 @@ pub struct Stepped {
 fn quiet(refusal: u8, state: Cgb) -> Stepped
     ensures { result ≡ line_of refusal state }
 {
-    let ff55 = hdma::hdma5::status_byte(state.vram_dma);
-    let same = rebuild::cgb(state);
     Stepped {
         line: Line {
-            refusal: refusal,
+            refusal,
             pairs: 0,
             left: state.vram_dma.cursor.remaining,
-            ff55: ff55,
+            ff55: hdma::hdma5::status_byte(state.vram_dma),
             source: 0,
             dest: 0,
             cause: 0,
         },
-        state: same,
+        state,
     }
 }
 
-#[tactic(auto, unfolding(crate::specs::Step::pair_line_of))]
-fn lined(refusal: u8, answer: ToldPair, state: Cgb) -> Stepped
+// The same of a call that may have told a pair, with the number of its cause.
+#[tactic(auto, unfolding(crate::specs::Step::pair_line_of, crate::specs::Step::line_of))]
+fn lined(refusal: u8, answer: Option<(BytePair, u16)>, state: Cgb) -> Stepped
     ensures { result ≡ pair_line_of refusal answer state }
 {
-    let ToldPair::Pair(pair, cause) = answer else {
-        return quiet(refusal, state);
+    let quiet = quiet(refusal, state);
+    let Some((pair, cause)) = answer else {
+        return quiet;
     };
-    let ff55 = hdma::hdma5::status_byte(state.vram_dma);
-    let same = rebuild::cgb(state);
     Stepped {
         line: Line {
-            refusal: refusal,
             pairs: 1,
-            left: state.vram_dma.cursor.remaining,
-            ff55: ff55,
             source: pair.source,
             dest: pair.dest,
-            cause: cause,
+            cause,
+            ..quiet.line
         },
-        state: same,
+        state,
     }
 }
 
-// The pair that a call told, if it is one that hands out a pair.
+// The pair that a call told, if it is one that hands out a pair, with the number of its cause.
 #[tactic(auto, unfolding(crate::specs::Step::told_pair))]
-fn handed(hands: bool, told: Told) -> ToldPair
+fn handed(hands: bool, told: Told) -> Option<(BytePair, u16)>
     ensures { result ≡ told_pair hands told }
 {
-    let came = hands & (told.v0 != 0);
-    if came {
-        return ToldPair::Pair(
-            BytePair {
-                source: told.v1,
-                dest: told.v2,
-            },
-            told.v3,
-        );
-    }
-    ToldPair::None
+    let pair = BytePair {
+        source: told.v1,
+        dest: told.v2,
+    };
+    (hands & (told.v0 != 0)).then_some((pair, told.v3))
 }
 
 // A record at a state. A record of another kind, or a short one, gets 6.
@@ -100,11 +83,7 @@ fn handed(hands: bool, told: Told) -> ToldPair
 pub fn perform(state: Cgb, wram: &mut [u8], given: Record) -> Stepped
     ensures { Steps state wram.old given result wram.new }
 {
-    let mut vram: [u8; 0] = [];
-    let mut oam: [u8; 0] = [];
-    let call = given.call;
-    let done = perform::perform_record(state, call, &[], wram, &mut vram, &mut oam);
-    let told = done.told;
-    let after = done.state;
-    lined(told.refusal, handed(given.hands_pair, told), after)
+    let done = perform::perform_record(state, given.call, &[], wram, &mut [], &mut []);
+    let pair = handed(given.hands_pair, done.told);
+    lined(done.told.refusal, pair, done.state)
 }

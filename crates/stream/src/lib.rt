@@ -1,138 +1,95 @@
-// A file read in parts through a buffer of fixed size: bytes that are not used yet wait at its front, and a read brings more
-// behind them. A file is any reader of std, or writer: standard input and output too.
+// A file read in parts through a buffer of fixed size: bytes that are not used yet wait in it, and a read brings more behind them. A file
+// is any reader of std: standard input too.
 #![tactic(auto)]
 
-ghost use Rattle.std.specs.Prelude.{◌-◌, ◌<◌, ◌≤◌, min, max, false, cond, ◌≡◌, length, take, drop};
+ghost use Rattle.std.specs.Prelude.{◌+◌, ◌-◌, ◌<◌, ◌≤◌, ◌≡◌, [], false, length, take, drop, IfOk, MatchResult};
 
-use std::io::{Read, Write};
+use std::io;
+use std::io::Read;
+use std::marker::Model;
 
-// How many bytes stand in the buffer after a read, and whether the file could not be read. If no more than waited, and the buffer
-// is not full, the file ended or could not be read.
-#[derive(Clone, Copy)]
-pub struct Filled {
-    pub bytes: usize,
-    pub failed: bool,
-}
-
-// One read, behind the bytes that wait at the front; where there is no room, none.
-pub fn fill<R: Read>(input: &mut R, buf: &mut [u8], waiting: usize) -> Filled
-    ensures within { (waiting ≤ result.bytes) × (result.bytes ≤ max waiting (length buf.new)) }
-    ensures waiting_kept { take waiting buf.new ≡ take waiting buf.old }
-{
-    if waiting >= buf.len() {
-        return Filled {
-            bytes: waiting,
-            failed: false,
-        };
-    }
-    let room = &mut buf[waiting..];
-    match input.read(room) {
-        Ok(got) => Filled {
-            bytes: waiting + got,
-            failed: false,
-        },
-        Err(_) => Filled {
-            bytes: waiting,
-            failed: true,
-        },
-    }
-}
-
-fn less(a: usize, b: usize) -> usize
-    ensures { result ≡ a - b }
-{
-    if b < a { a - b } else { 0 }
-}
-
-// How many places there are from one up to another, among so many.
-fn between(from: usize, end: usize, places: usize) -> usize
-    ensures { result ≡ min end places - from }
-{
-    if end < places {
-        less(end, from)
-    } else {
-        less(places, from)
-    }
-}
-
-// The bytes from one place up to another, as far as there are any, moved to the front: how many they are.
-pub fn to_front(buf: &mut [u8], from: usize, end: usize) -> usize
-    ensures count { result ≡ min end (length buf.old) - from }
-    ensures moved { take result buf.new ≡ take result (drop from buf.old) }
-{
-    let n = between(from, end, buf.len());
-    let mut i: usize = 0;
-    while i < n {
-        buf[i] = buf[from + i];
-        i += 1;
-    }
-    n
-}
-
-// Where bytes wait in a buffer after a refill; whether a read was needed and brought nothing, so that the file has ended or cannot be
-// read; and whether it cannot.
-#[derive(Clone, Copy)]
-pub struct Refilled {
-    pub from: usize,
-    pub stop: usize,
-    pub dry: bool,
-    pub failed: bool,
-}
-
-// Where fewer than `enough` bytes wait, from one place up to another, they go to the front, and one read brings more behind them.
-pub fn refill<R: Read>(
-    input: &mut R,
-    buf: &mut [u8],
+// The bytes that wait stand from one place up to another. To a contract it is the list of them.
+#[derive(Drop)]
+pub struct Buffer<const N: usize> {
+    bytes: [u8; N],
     from: usize,
     stop: usize,
-    enough: usize,
-) -> Refilled
-    ensures within { (result.from ≤ result.stop) × (result.stop ≤ length buf.new) }
-    ensures none_lost { min stop (length buf.old) - from ≤ result.stop - result.from }
-    ensures waiting_kept { take (min stop (length buf.old) - from) (drop result.from buf.new) ≡ take (min stop (length buf.old) - from) (drop from buf.old) }
-{
-    let waiting = between(from, stop, buf.len());
-    if (waiting >= enough) & (from <= buf.len()) {
-        return Refilled {
-            from: from,
-            stop: from + waiting,
-            dry: false,
-            failed: false,
-        };
+}
+
+impl<const N: usize> Model for Buffer<N> {
+    ghost use Rattle.std.specs.Prelude.{ℕ, List, ◌-◌, ◌≤◌, take, drop};
+
+    ghost Value = { List ℕ };
+
+    ghost view = { λ b. take (b.stop - b.from) (drop b.from b.bytes) };
+
+    ghost invariant = { λ b. (b.from ≤ b.stop) × (b.stop ≤ N) };
+}
+
+impl<const N: usize> Buffer<N> {
+    pub fn new() -> Self
+        ensures { result ≡ [] }
+    {
+        Buffer {
+            bytes: [0; N],
+            from: 0,
+            stop: 0,
+        }
     }
-    let front = to_front(buf, from, stop);
-    let filled = fill(input, buf, front);
-    let bytes = filled.bytes;
-    let failed = filled.failed;
-    Refilled {
-        from: 0,
-        stop: bytes,
-        dry: bytes == front,
-        failed: failed,
+
+    pub fn waiting(&self) -> &[u8]
+        ensures value { result.now ≡ self.now }
+        ensures within { length result.now ≤ N }
+    {
+        let bytes = &self.bytes[..];
+        &bytes[self.from..self.stop]
+    }
+
+    // The first n of them are used, or all where there are fewer.
+    pub fn take(&mut self, n: usize)
+        ensures { self.new ≡ drop n self.old }
+    {
+        self.from += n.min(self.stop - self.from);
+    }
+
+    // One read, behind what waits; where there is no room, none. How many bytes came: with no room none, and none at the file's end.
+    pub fn read<R: Read>(&mut self, input: &mut R) -> io::Result<usize>
+        ensures waiting_kept { take (length self.old) self.new ≡ self.old }
+        ensures count { MatchResult result (λ n. length self.new ≡ length self.old + n) (λ _. self.new ≡ self.old) }
+    {
+        let bytes = &mut self.bytes[..];
+        let waiting = to_front(bytes, self.from, self.stop);
+        self.from = 0;
+        self.stop = waiting;
+        if waiting == N {
+            return Ok(0);
+        }
+        let came = input.read(&mut bytes[waiting..])?;
+        self.stop += came;
+        Ok(came)
+    }
+
+    // One read, where fewer than `enough` bytes wait. Whether there was no need of one, or it brought some.
+    pub fn refill<R: Read>(&mut self, input: &mut R, enough: usize) -> io::Result<bool>
+        ensures waiting_kept { take (length self.old) self.new ≡ self.old }
+        ensures dry { IfOk result (λ more. more ≡ false → (length self.old < enough) × (self.new ≡ self.old)) }
+    {
+        if self.waiting().len() >= enough {
+            return Ok(true);
+        }
+        Ok(self.read(input)? != 0)
     }
 }
 
-// How many reads may still come after this one, none where the last brought nothing. A loop has to end, and nothing says that a file
-// does: so it counts down, from a number that no run uses up.
-pub fn fewer(turns: u64, more: bool) -> u64
-    ensures left { result ≡ cond more (turns - 1) 0 }
-    ensures at_least_one_less { result ≤ turns - 1 }
+// The bytes from one place up to another, moved to the front: how many they are. A loop, since std has no copy_within.
+fn to_front(buf: &mut [u8], from: usize, stop: usize) -> usize
+    requires { (from ≤ stop) × (stop ≤ length buf.old) }
+    ensures count { result ≡ stop - from }
+    ensures moved { take result buf.new ≡ take result (drop from buf.old) }
 {
-    if !more {
-        return 0;
+    let n = stop - from;
+    for i in 0..n {
+        buf[i] = buf[from + i];
     }
-    if turns == 0 {
-        return 0;
-    }
-    turns - 1
-}
-
-// The front of a buffer written out: whether all of it was.
-pub fn flush<W: Write>(output: &mut W, out: &[u8], n: usize) -> bool
-    ensures { length out.now < n → result ≡ false }
-{
-    if n <= out.len() {
-        return output.write_all(&out[0..n]).is_ok();
-    }
-    false
+    n
 }

@@ -1,6 +1,7 @@
 -- Text as ASCII bytes: decimal numbers without leading zeros, a byte in two capitals; and text stored in a buffer.
 use Rattle.std.specs.Prelude.{ℕ, zero, suc, ◌+◌, ◌/◌, ◌%◌, ◌≤◌, ◌<◌, min, max, ◌≡◌, cond, List, [], ◌∷◌, ◌++◌, ltb, length, take, drop}
 use Rattle.std.proofs.lemmas.List.Edits.{sets}
+use Rattle.text.specs.declared.Text.{Text}
 
 abbrev pub space : ℕ
 space = 32
@@ -43,6 +44,11 @@ past size at n = max at (min (at + n) size)
 pub record Put (before : List ℕ) (at : ℕ) (text : List ℕ) (r : ℕ) (after : List ℕ) : Type 0 where
   pub place : r ≡ past (length before) at (length text)
   pub bytes : after ≡ sets before at text
+
+-- the same of a `Text`, which has its buffer still
+pub record Pushed (before : Text) (text : List ℕ) (after : Text) : Type 0 where
+  pub buffer : after.out.ghost_name ≡ before.out.ghost_name
+  pub put : Put before.out.now before.at text after.at after.out.now
 
 -- a number below 10 is its digit; another is its tenth and then its last digit
 pub record Decimals : Type 0 where

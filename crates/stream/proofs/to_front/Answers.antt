@@ -7,4 +7,4 @@ pub loop-i-preserved : goal.loop-i-preserved
 loop-i-preserved c =
     let l = c.loop-i in
     let a = c.args in
-    (omega arith, one_more a.buf.now a.from l.i l.buf (omega arith) (omega arith) l.invariant.1)
+    one_more a.buf.now a.from l.i l.buf (omega arith) (omega arith) l.invariant

@@ -1,10 +1,6 @@
 -- The bytes in front of i are moved, and those behind are as they were.
-use Rattle.std.proofs.Common.{◌-◌, ◌≤◌}
 use Rattle.stream.proofs.Front.{Moved}
 use Rattle.stream.proofs.to_front.Given as goal
 
 abbrev pub invariant-loop-i : goal.invariant-loop-i
-invariant-loop-i l = (l.i ≤ l.n) × Moved l.initial.buf l.from l.i l.buf
-
-abbrev pub decreases-loop-i : goal.decreases-loop-i
-decreases-loop-i l = l.n - l.i
+invariant-loop-i l = Moved l.initial.buf l.from l.i l.buf
