@@ -1,6 +1,6 @@
 -- What the measured loop leaves: the calls' own definitions, one after the other.
 use Rattle.std.specs.Prelude.{ℕ, zero, suc, ◌/◌, ◌%◌, ◌≡◌, Bool, true, false, cond, List, eqb, length, get_or}
-use Rattle.codec.specs.Codec.{encode_of, decode_of}
+use Rattle.codec.specs.Codec.{encode_of, state_of}
 use Rattle.console.specs.declared.Cgb.{Cgb}
 use Rattle.bus.specs.declared.commit.BusInput.{BusInput}
 use Rattle.fall_stages.specs.declared.FallInput.{FallInput}
@@ -62,7 +62,7 @@ after_steps cartridge wram steps start (suc n) =
 -- the whole outcome, from the state that the bytes read as
 unfoldable pub measured_of : List ℕ → List ℕ → List ℕ → List ℕ → List ℕ → List ℕ → Measured
 measured_of bytes steps cartridge wram vram oam =
-    after_steps cartridge wram steps (record { state = (decode_of bytes).state; vram = vram; oam = oam }) (length steps)
+    after_steps cartridge wram steps (record { state = state_of bytes; vram = vram; oam = oam }) (length steps)
 
 pub record Benched (bytes steps cartridge wram vram oam last_bytes last_vram last_oam : List ℕ) : Type 0 where
   pub state : last_bytes ≡ encode_of (measured_of bytes steps cartridge wram vram oam).state

@@ -5,9 +5,7 @@
 ghost use Rattle.bench.specs.Falls.{step_fall, step_bus, Held, Benched};
 ghost use Rattle.std.specs.Prelude.{◌≡◌};
 
-use bus::commit::BusInput;
-use console::Cgb;
-use fall_edge::FallInput;
+use engine::{BusInput, Cgb, FallInput};
 
 // A step's byte: mode in bits 0 and 1, halted, IRQ latched, stopped, a bus owned by OAM DMA.
 fn fall_input(step: u8, edge: u64) -> FallInput
@@ -38,8 +36,7 @@ fn bus(state: Cgb, cartridge: &[u8], wram: &[u8], vram: &mut [u8], oam: &mut [u8
     ensures { Held state cartridge.now wram.now vram.old oam.old
         result vram.new oam.new }
 {
-    let bussed = engine::vram_dma_commit_bytes(state, bus_input(), cartridge, wram, vram, oam);
-    bussed.state
+    engine::vram_dma_commit_bytes(state, bus_input(), cartridge, wram, vram, oam).state
 }
 
 // A fall for each byte, its edge the byte's place; where bit 6 is set a bus call follows.
@@ -55,15 +52,9 @@ pub extern "C" fn bench_falls(
     ensures { Benched bytes.old steps.now cartridge.now wram.now
         vram.old oam.old bytes.new vram.new oam.new }
 {
-    let start = codec::decode(*bytes);
-    let mut state = start.state;
-    let mut i: usize = 0;
-    while i < steps.len() {
-        let step = steps[i];
-        let input = fall_input(step, i as u64);
-        i += 1;
-        let fell = engine::vram_dma_fall_edge(state, input);
-        state = fell.state;
+    let mut state = codec::state_of(bytes);
+    for (i, step) in steps.iter().enumerate() {
+        state = engine::vram_dma_fall_edge(state, fall_input(*step, i as u64)).state;
         if step / 64 % 2 == 1 {
             state = bus(state, cartridge, wram, vram, oam);
         }

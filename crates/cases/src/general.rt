@@ -1,49 +1,35 @@
 // K1: a General transfer by rounds of a fall and a held bus call.
-use crate::{calls, held, lent, say};
-use console::Cgb;
+use crate::case::Case;
+use crate::lent::Memory;
+use crate::say::{self, Row};
 use std::rt::Stdout;
 
-pub fn round(
-    out: Stdout,
-    state: Cgb,
-    cartridge: &[u8; 40960],
-    vram: &mut [u8; 16384],
-    oam: &mut [u8; 160],
-) -> Cgb {
-    say::label(out, b"fall, bus, pairs: ");
-    held::beside(out, calls::fallen(state, 3), 0, cartridge, vram, oam)
+pub fn round(case: Case, lent: &mut Memory) -> Case {
+    case.fallen(3).bus_beside("fall, bus, pairs", 0, lent)
 }
 
-pub fn four_rounds(
-    out: Stdout,
-    state: Cgb,
-    cartridge: &[u8; 40960],
-    vram: &mut [u8; 16384],
-    oam: &mut [u8; 160],
-) -> Cgb {
-    let one = round(out, state, cartridge, vram, oam);
-    let two = round(out, one, cartridge, vram, oam);
-    let three = round(out, two, cartridge, vram, oam);
-    round(out, three, cartridge, vram, oam)
+pub fn rounds(start: Case, turns: u8, lent: &mut Memory) -> Case {
+    let mut case = start;
+    for _ in 0..turns {
+        case = round(case, lent);
+    }
+    case
 }
 
 // FF, and the row of VRAM that was moved, with the byte behind it.
-fn end(out: Stdout, state: Cgb, vram: &[u8; 16384]) {
-    say::label(out, b"FF55: ");
-    calls::read(out, state, 0xFF55);
-    say::row(out, b"VRAM from 8000:", vram, 17);
+fn end(case: Case, lent: &Memory) {
+    case.read("FF55", 0xFF55);
+    let row = Row(&lent.vram[..17]);
+    say::line(case.out, format_args!("VRAM from 8000:{row}"));
 }
 
 // FF55=00; eight rounds: 0000h to 8000h, up to 000Fh to 800Fh; then FF, and a ninth brings none.
 pub fn k1(out: Stdout) {
-    say::case(out, b"K1");
-    let cartridge = lent::cartridge();
-    let mut vram = [0u8; 16384];
-    let mut oam = [0u8; 160];
-    let general = calls::set(engine::power_on(false), 0xFF55, 0x00);
-    let half = four_rounds(out, general, &cartridge, &mut vram, &mut oam);
-    let all = four_rounds(out, half, &cartridge, &mut vram, &mut oam);
-    end(out, all, &vram);
-    let _none = round(out, all, &cartridge, &mut vram, &mut oam);
-    lent::stored(out, &vram, &oam);
+    say::line(out, "K1");
+    let mut lent = Memory::new();
+    let general = Case::power_on(out, false).set(0xFF55, 0x00);
+    let all = rounds(general, 8, &mut lent);
+    end(all, &lent);
+    round(all, &mut lent);
+    lent.stored(out);
 }

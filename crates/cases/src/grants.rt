@@ -1,107 +1,64 @@
 // K9: blocks are granted and never moved, until the count is full.
-use crate::{calls, say};
-use answers::ClaimAnswer;
-use console::Cgb;
+use crate::case::Case;
+use crate::say;
+use engine::Refusal;
 use std::rt::Stdout;
 
-// Where the run stands; from the first refusal on it does not go on.
+// The six falls of a round: the mode, and whether the CPU is halted.
+const FALLS: [(u8, bool); 6] = [
+    (3, false),
+    (3, true),
+    (3, true),
+    (0, true),
+    (0, false),
+    (0, false),
+];
+
+// Where a fall was refused, and the state that it handed back.
 #[derive(Clone, Copy)]
-struct Course {
-    state: Cgb,
+struct Refused {
     round: u16,
-    fall: u8,
-    refused: u8,
-    // The refused fall handed back the state that it was given.
-    kept: bool,
+    fall: usize,
+    refusal: Refusal,
+    before: Case,
+    after: Case,
 }
 
-fn begin(state: Cgb) -> Course {
-    Course {
-        state: state,
-        round: 0,
-        fall: 0,
-        refused: 0,
-        kept: true,
-    }
-}
-
-fn refusal(answer: ClaimAnswer) -> u8 {
-    match answer {
-        ClaimAnswer::Claim { .. } => 0,
-        ClaimAnswer::Refused(n) => n,
-    }
-}
-
-fn kept(refused: u8, before: Cgb, after: Cgb) -> bool {
-    if refused > 0 {
-        return calls::same(before, after);
-    }
-    true
-}
-
-fn fall(c: Course, number: u8, mode: u8, halted: bool) -> Course {
-    if c.refused > 0 {
-        return c;
-    }
-    let fell = calls::fall(c.state, mode, halted);
-    let answer = fell.answer;
-    let state = fell.state;
-    let refused = refusal(answer);
-    Course {
-        state: state,
-        round: c.round,
-        fall: number,
-        refused: refused,
-        kept: kept(refused, c.state, state),
-    }
-}
-
-fn falls(c: Course) -> Course {
-    let one = fall(c, 1, 3, false);
-    let two = fall(one, 2, 3, true);
-    let three = fall(two, 3, 3, true);
-    let four = fall(three, 4, 0, true);
-    let five = fall(four, 5, 0, false);
-    fall(five, 6, 0, false)
-}
-
-fn in_round(c: Course, round: u16) -> Course {
-    let state = c.state;
-    Course {
-        state: state,
-        round: round,
-        fall: c.fall,
-        refused: c.refused,
-        kept: c.kept,
-    }
-}
-
-fn first_refusal(start: Course) -> Course {
-    let mut c = start;
-    let mut round: u16 = 1;
-    while round < 1000 {
-        c = falls(in_round(c, round));
-        if c.refused > 0 {
-            return c;
+fn first_refusal(start: Case) -> Option<Refused> {
+    let mut case = start;
+    for round in 1..1000 {
+        for (i, (mode, halted)) in FALLS.into_iter().enumerate() {
+            let fell = case.fall(mode, halted);
+            let after = case.at(fell.state);
+            if let Err(refusal) = fell.answer {
+                return Some(Refused {
+                    round,
+                    fall: i + 1,
+                    refusal,
+                    before: case,
+                    after,
+                });
+            }
+            case = after;
         }
-        round += 1;
     }
-    c
+    None
 }
 
-fn tell(out: Stdout, c: Course) {
-    say::number(out, b"first refusal in round: ", c.round as u32);
-    say::number(out, b"fall: ", c.fall as u32);
-    say::number(out, b"refused: ", c.refused as u32);
-    say::yes(out, b"state as before: ", c.kept);
+fn tell(refused: Refused) {
+    let after = refused.after;
+    after.say("first refusal in round", refused.round);
+    after.say("fall", refused.fall);
+    after.say("refused", u8::from(refused.refusal));
+    after.compare(refused.before.state);
+    after.tally("tally");
+    after.read("FF55", 0xFF55);
 }
 
 pub fn k9(out: Stdout) {
-    say::case(out, b"K9");
-    let c = first_refusal(begin(calls::set(engine::power_on(false), 0xFF55, 0xFF)));
-    tell(out, c);
-    say::label(out, b"tally: ");
-    calls::tally(out, c.state);
-    say::label(out, b"FF55: ");
-    calls::read(out, c.state, 0xFF55);
+    say::line(out, "K9");
+    match first_refusal(Case::power_on(out, false).set(0xFF55, 0xFF)) {
+        Some(refused) => tell(refused),
+        None => say::line(out, "no fall is refused"),
+    }
 }

@@ -3,14 +3,13 @@
 #![tactic(auto)]
 
 mod blackouts;
-mod calls;
+mod case;
 mod cuts;
 mod declined;
 mod deposit;
 mod general;
 mod grants;
 mod hblank;
-mod held;
 mod lengths;
 mod lent;
 mod map;

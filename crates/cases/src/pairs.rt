@@ -1,115 +1,97 @@
 // K4 and K5: General transfers by rounds of a fall and next pairs.
-use crate::{calls, say};
-use answers::PairAnswer;
-use arithmetic::step::saturating_inc;
-use console::Cgb;
+use crate::case::Case;
+use crate::say;
+use engine::{BytePair, Cause};
 use std::rt::Stdout;
-use transfer::pair::{BytePair, Cause};
 
 // A transfer under way, with what has come of it.
 #[derive(Clone, Copy)]
 pub struct Run {
-    pub state: Cgb,
-    pub falls: u8,
-    pub pairs: u8,
-    pub last: BytePair,
-    pub cause: Cause,
+    pub case: Case,
+    falls: u8,
+    pairs: u8,
+    last: Option<(BytePair, Cause)>,
 }
 
-pub fn begin(state: Cgb) -> Run {
-    Run {
-        state: state,
-        falls: 0,
-        pairs: 0,
-        last: BytePair { source: 0, dest: 0 },
-        cause: Cause::GoingOn,
-    }
-}
-
-fn fell(run: Run) -> Run {
-    let state = calls::fallen(run.state, 3);
-    let last = run.last;
-    let cause = run.cause;
-    Run {
-        state: state,
-        falls: saturating_inc(run.falls),
-        pairs: run.pairs,
-        last: last,
-        cause: cause,
-    }
-}
-
-// A next pair; where none comes, a fall.
-fn turn(run: Run) -> Run {
-    let handed = engine::next_byte(run.state);
-    let answer = handed.answer;
-    let PairAnswer::Pair(pair, cause) = answer else {
-        return fell(run);
-    };
-    let state = handed.state;
-    Run {
-        state: state,
-        falls: run.falls,
-        pairs: saturating_inc(run.pairs),
-        last: pair,
-        cause: cause,
-    }
-}
-
-// Goes on until so many pairs came, with a number of turns that no case reaches.
-pub fn until(start: Run, wanted: u8) -> Run {
-    let mut run = start;
-    let mut turns: u64 = 200;
-    while turns > 0 {
-        if run.pairs == wanted {
-            return run;
+impl Run {
+    pub fn new(case: Case) -> Self {
+        Run {
+            case,
+            falls: 0,
+            pairs: 0,
+            last: None,
         }
-        run = turn(run);
-        turns -= 1;
     }
-    run
+
+    fn fallen(self) -> Self {
+        Run {
+            case: self.case.fallen(3),
+            falls: self.falls.saturating_add(1),
+            ..self
+        }
+    }
+
+    // A next pair; where none comes, a fall.
+    fn turn(self) -> Self {
+        let handed = engine::next_byte(self.case.state);
+        let Ok(Some(pair)) = handed.answer else {
+            return self.fallen();
+        };
+        Run {
+            case: self.case.at(handed.state),
+            pairs: self.pairs.saturating_add(1),
+            last: Some(pair),
+            ..self
+        }
+    }
+
+    // Goes on until so many pairs came, with a number of turns that no case reaches.
+    pub fn until(self, wanted: u8) -> Self {
+        let mut run = self;
+        for _ in 0..200 {
+            if run.pairs == wanted {
+                return run;
+            }
+            run = run.turn();
+        }
+        run
+    }
+
+    fn tell(self) {
+        self.case.say("pairs", self.pairs);
+        self.case.say("falls", self.falls);
+        self.case.answered("last pair", Ok(self.last));
+    }
 }
 
-fn tell(out: Stdout, run: Run) {
-    say::number(out, b"pairs: ", run.pairs as u32);
-    say::number(out, b"falls: ", run.falls as u32);
-    let last = run.last;
-    let cause = run.cause;
-    say::some_pair(out, b"last pair: ", last, cause);
-}
-
-fn general(high: u8, low: u8, length: u8) -> Run {
-    let a = calls::set(engine::power_on(false), 0xFF53, high);
-    let b = calls::set(a, 0xFF54, low);
-    begin(calls::set(b, 0xFF55, length))
+fn general(out: Stdout, high: u8, low: u8, length: u8) -> Run {
+    let start = Case::power_on(out, false);
+    Run::new(start.set(0xFF53, high).set(0xFF54, low).set(0xFF55, length))
 }
 
 // Nothing is left: another fall brings no pair.
-fn ended(out: Stdout, state: Cgb) {
-    say::label(out, b"tally: ");
-    calls::tally(out, state);
-    say::label(out, b"FF55: ");
-    calls::read(out, state, 0xFF55);
-    say::label(out, b"a fall, next pair: ");
-    let _after = calls::next(out, calls::fallen(state, 3));
+fn ended(case: Case) {
+    case.tally("tally");
+    case.read("FF55", 0xFF55);
+    case.fallen(3).next("a fall, next pair");
 }
 
 pub fn k4(out: Stdout) {
-    say::case(out, b"K4");
-    let first = until(general(0xFF, 0xF0, 0x01), 1);
-    tell(out, first);
-    let all = until(first, 16);
-    tell(out, all);
-    ended(out, all.state);
+    say::line(out, "K4");
+    let first = general(out, 0xFF, 0xF0, 0x01).until(1);
+    first.tell();
+    let all = first.until(16);
+    all.tell();
+    ended(all.case);
 }
 
 pub fn k5(out: Stdout) {
-    say::case(out, b"K5");
-    let row = until(general(0x9F, 0xF0, 0x01), 16);
-    tell(out, row);
-    let folded = until(row, 17);
-    tell(out, folded);
-    let all = until(folded, 32);
-    tell(out, all);
-    ended(out, all.state);
+    say::line(out, "K5");
+    let row = general(out, 0x9F, 0xF0, 0x01).until(16);
+    row.tell();
+    let folded = row.until(17);
+    folded.tell();
+    let all = folded.until(32);
+    all.tell();
+    ended(all.case);
 }

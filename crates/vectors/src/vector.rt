@@ -1,105 +1,136 @@
 // One vector: its call is performed by the exported entry, and every byte of the answer, of the state and of
-// lent memory is compared with what the original left. differential/oracle/src/vectors.rs says each place.
-use crate::lent;
-use memory::byte_at;
+// lent memory is compared with what the original left. differential/oracle/src/vector.rs says each place.
+ghost use Rattle.std.specs.Prelude.{◌<◌, ◌≤◌, ◌^◌};
 
-fn call(vector: &[u8; 568]) -> [u8; 16] {
-    [
-        vector[0], vector[1], vector[2], vector[3], vector[4], vector[5], vector[6], vector[7],
-        vector[8], vector[9], vector[10], vector[11], vector[12], vector[13], vector[14],
-        vector[15],
-    ]
+use crate::lent::Lent;
+use std::io::{self, Read};
+
+// A byte that a call changed: its slice, or 0 for none, its index and its value.
+#[derive(Clone, Copy)]
+pub struct Change {
+    pub slice: u8,
+    pub index: usize,
+    pub value: u8,
 }
 
-fn state_before(vector: &[u8; 568]) -> [u8; 248] {
-    let mut bytes = [0u8; 248];
-    for i in 0..248 {
-        bytes[i] = byte_at(vector, 32 + i);
+#[derive(Clone, Copy)]
+pub struct Vector {
+    call: [u8; 16],
+    lengths: [u32; 4],
+    before: [u8; 248],
+    answer: [u8; 24],
+    after: [u8; 248],
+    pub changes: [Change; 4],
+}
+
+fn bytes<const N: usize>(input: &mut impl Read) -> io::Result<[u8; N]>
+    requires { N < 2 ^ 63 }
+{
+    let mut bytes = [0; N];
+    input.read_exact(&mut bytes)?;
+    Ok(bytes)
+}
+
+fn length(input: &mut impl Read) -> io::Result<u32> {
+    Ok(u32::from_le_bytes(bytes(input)?))
+}
+
+impl Change {
+    fn read(input: &mut impl Read) -> io::Result<Self> {
+        let [slice, low, high, value] = bytes::<4>(input)?;
+        let index = usize::from(u16::from_le_bytes([low, high]));
+        Ok(Change {
+            slice,
+            index,
+            value,
+        })
     }
-    bytes
 }
 
-fn state_agrees(vector: &[u8; 568], state: &[u8; 248]) -> bool {
-    &vector[304..552] == state.as_slice()
+// The length of a slice that a call is given, of a memory that has no more than `limit`.
+fn up_to(limit: usize, length: u32) -> usize
+    ensures { result ≤ limit }
+{
+    limit.min(length as usize)
 }
 
-// The result stands in front of the answer.
-fn answer_agrees(vector: &[u8; 568], res: u8, answer: &[u8; 24]) -> bool {
-    (res == answer[0]) & (&vector[280..304] == answer.as_slice())
-}
-
-// Whether the entry's answer is the original's; it leaves the state.
-fn answered(
-    vector: &[u8; 568],
-    state: &mut [u8; 248],
-    cartridge: &[u8],
-    wram: &mut [u8],
-    vram: &mut [u8],
-    oam: &mut [u8],
-) -> bool {
-    let record = call(vector);
-    // What stood in the answer must not show in it.
-    let mut answer = [0xA5u8; 24];
-    let result = c_api::cgb_perform(state, &record, &mut answer, cartridge, wram, vram, oam);
-    answer_agrees(vector, result, &answer)
-}
-
-// Its targets have the vector's lengths.
-fn with_targets(
-    vector: &[u8; 568],
-    state: &mut [u8; 248],
-    cartridge: &[u8],
-    wram: &mut [u8],
-    vram: &mut [u8],
-    oam: &mut [u8],
-) -> bool {
-    let v = lent::length(vector, lent::VRAM, vram.len());
-    let o = lent::length(vector, lent::OAM, oam.len());
-    answered(
-        vector,
-        state,
-        cartridge,
-        wram,
-        &mut vram[0..v],
-        &mut oam[0..o],
-    )
-}
-
-// And its sources.
-fn performed(
-    vector: &[u8; 568],
-    state: &mut [u8; 248],
-    cartridge: &[u8],
-    wram: &mut [u8],
-    vram: &mut [u8],
-    oam: &mut [u8],
-) -> bool {
-    let c = lent::length(vector, lent::CARTRIDGE, cartridge.len());
-    let w = lent::length(vector, lent::WRAM, wram.len());
-    with_targets(vector, state, &cartridge[0..c], &mut wram[0..w], vram, oam)
-}
-
-// Power-on, with or without compat: the state before is not looked at.
-fn power_on_agrees(vector: &[u8; 568]) -> bool {
-    let mut state = [0u8; 248];
-    c_api::cgb_power_on(&mut state, vector[4]);
-    state_agrees(vector, &state)
-}
-
-// Kind 0 is power-on, which is no call.
-pub fn agrees(
-    vector: &[u8; 568],
-    cartridge: &mut [u8],
-    wram: &mut [u8],
-    vram: &mut [u8],
-    oam: &mut [u8],
-) -> bool {
-    if vector[0] == 0 {
-        return power_on_agrees(vector);
+impl Vector {
+    pub fn read(input: &mut impl Read) -> io::Result<Self> {
+        Ok(Vector {
+            call: bytes(input)?,
+            lengths: [
+                length(input)?,
+                length(input)?,
+                length(input)?,
+                length(input)?,
+            ],
+            before: bytes(input)?,
+            answer: bytes(input)?,
+            after: bytes(input)?,
+            changes: [
+                Change::read(input)?,
+                Change::read(input)?,
+                Change::read(input)?,
+                Change::read(input)?,
+            ],
+        })
     }
-    lent::fill_all(cartridge, wram, vram, oam, vector);
-    let mut state = state_before(vector);
-    let same = performed(vector, &mut state, cartridge, wram, vram, oam);
-    let kept = lent::all_as_named(cartridge, wram, vram, oam, vector);
-    same & state_agrees(vector, &state) & kept
+
+    pub fn kind(&self) -> u8 {
+        self.call[0]
+    }
+
+    pub fn seed(&self) -> u8 {
+        self.call[1]
+    }
+
+    // Whether the call is lent memory: a write, a read, a bus call, object DMA's M-cycle. For others it is neither filled nor looked at.
+    // By the kind's number, since an M-cycle's record that is no call is to leave memory too.
+    fn is_lent(&self) -> bool {
+        matches!(self.kind(), 1 | 8 | 9 | 27 | 29)
+    }
+
+    // Whether the entry's answer is the original's, with the result in front of it; it leaves the state.
+    fn answered(&self, state: &mut [u8; 248], lent: &mut Lent) -> bool {
+        let [c, w, v, o] = self.lengths;
+        let wram = &mut lent.wram[..];
+        let vram = &mut lent.vram[..];
+        let oam = &mut lent.oam[..];
+        // What stood in the answer must not show in it.
+        let mut answer = [0xA5; 24];
+        let result = c_api::cgb_perform(
+            state,
+            &self.call,
+            &mut answer,
+            &lent.cartridge[..up_to(40961, c)],
+            &mut wram[..up_to(32769, w)],
+            &mut vram[..up_to(16385, v)],
+            &mut oam[..up_to(161, o)],
+        );
+        (result == answer[0]) & (answer == self.answer)
+    }
+
+    // Power-on, with or without compat: the state before is not looked at.
+    fn powered_on(&self) -> bool {
+        let mut state = [0; 248];
+        c_api::cgb_power_on(&mut state, self.call[4]);
+        state == self.after
+    }
+
+    fn performed(&self, lent: &mut Lent) -> bool {
+        let mut state = self.before;
+        self.answered(&mut state, lent) & (state == self.after)
+    }
+
+    // Kind 0 is power-on, which is no call.
+    pub fn agrees(&self, lent: &mut Lent) -> bool {
+        if self.kind() == 0 {
+            return self.powered_on();
+        }
+        if !self.is_lent() {
+            return self.performed(lent);
+        }
+        lent.fill(self.seed());
+        self.performed(lent) & lent.as_named(self)
+    }
 }
