@@ -4,7 +4,6 @@ use mathlib.Core.Path.{◌≡◌, refl, sym, ap, subst, ◌∙◌}
 use mathlib.Core.List.{List}
 use Rattle.console.specs.declared.Cgb.{Cgb}
 use Rattle.std.proofs.Common.{Option, Some, None}
-use Rattle.console.specs.declared.refusal.Refusal.TheVariants.{Record}
 use Rattle.call.specs.declared.Call.{Call}
 use Rattle.told.specs.Told.{told_refused, quietly}
 use Rattle.told.specs.declared.Performed.{Performed}
@@ -19,11 +18,11 @@ module _ (s : Cgb) (coded : Option Call) (cartridge wram vram oam : List ℕ) wh
   as_known k r w v o is p = subst (λ (x : Option Call). PerformsRecord s x cartridge wram vram oam r w v o) (sym is) p
 
   pub performs_none :
-      (r : Performed) (told : Told) → coded ≡ None → r ≡ quietly told s → told ≡ told_refused Record →
+      (r : Performed) (told : Told) → coded ≡ None → r ≡ quietly told s → told ≡ told_refused 6 →
       PerformsRecord s coded cartridge wram vram oam r wram vram oam
   unfolding record_performed record_wram record_vram record_oam
   performs_none r told none is six =
-      let whole : r ≡ quietly (told_refused Record) s = is ∙ ap (λ (t : Told). quietly t s) six in
+      let whole : r ≡ quietly (told_refused 6) s = is ∙ ap (λ (t : Told). quietly t s) six in
       as_known None r wram vram oam none
       (record {
         result = whole;

@@ -1,7 +1,6 @@
 -- A record's call performed. One of no call gets 6 (document 01: "6 replay record of other kind or short") and leaves all as given.
 use Rattle.std.specs.Prelude.{ℕ, ◌≡◌, List, Option, Some, None}
 use Rattle.console.specs.declared.Cgb.{Cgb}
-use Rattle.console.specs.declared.refusal.Refusal.TheVariants as refusal
 use Rattle.call.specs.declared.Call.{Call}
 use Rattle.told.specs.Declined.{Declined}
 use Rattle.told.specs.Told.{told_refused, quietly}
@@ -10,7 +9,7 @@ use Rattle.perform.specs.Perform.{perform_of, wram_left, vram_left, oam_left}
 
 unfoldable pub record_performed : Cgb → Option Call → List ℕ → List ℕ → List ℕ → List ℕ → Performed
 record_performed s (Some c) cartridge wram vram oam = perform_of s c cartridge wram vram oam
-record_performed s None cartridge wram vram oam = quietly (told_refused refusal.Record) s
+record_performed s None cartridge wram vram oam = quietly (told_refused 6) s
 
 unfoldable pub record_wram : Cgb → Option Call → List ℕ → List ℕ
 record_wram s (Some c) wram = wram_left s c wram

@@ -53,7 +53,7 @@ pub fn perform_record(
         result wram.new vram.new oam.new }
 {
     let Some(call) = coded else {
-        return told::quiet(told::refused(Refusal::Record), state);
+        return told::quiet(told::refused(u8::from(Refusal::Record)), state);
     };
     perform(state, call, cartridge, wram, vram, oam)
 }

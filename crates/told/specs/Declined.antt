@@ -3,14 +3,13 @@
 use Rattle.std.specs.Prelude.{ℕ, ◌≡◌, List, [], ◌∷◌}
 use Rattle.console.specs.declared.Cgb.{Cgb}
 use Rattle.bus.specs.Deposit.{no_pair}
-use Rattle.answers.specs.Answers.{declined}
-use Rattle.told.specs.Told.{told_of}
+use Rattle.told.specs.Told.{told_refused}
 use Rattle.told.specs.declared.Performed.{Performed}
 
 -- of a call at the state s with these slices, which gave r and left the last three
 pub record Declined (s : Cgb) (wram vram oam : List ℕ) (r : Performed) (last_wram last_vram last_oam : List ℕ) : Type 0 where
   -- its number and no value
-  pub number_alone : r.told ≡ told_of (declined r.told.refusal)
+  pub number_alone : r.told ≡ told_refused r.told.refusal
   pub no_pair_lem : r.pairs ≡ no_pair ∷ no_pair ∷ []
   pub no_cause : r.causes ≡ 0 ∷ 0 ∷ []
   pub no_byte : r.bytes ≡ 0 ∷ 0 ∷ []

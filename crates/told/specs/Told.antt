@@ -3,9 +3,7 @@
 use Rattle.std.specs.Prelude.{ℕ, List, [], ◌∷◌, get_or}
 use Rattle.answers.specs.Answers.{Said, declined}
 use Rattle.bus.specs.Deposit.{no_pair}
-use Rattle.console.specs.Refusals.{refusal_number}
 use Rattle.console.specs.declared.Cgb.{Cgb}
-use Rattle.console.specs.declared.refusal.Refusal.{Refusal}
 use Rattle.told.specs.declared.Performed.{Performed}
 use Rattle.told.specs.declared.Told.{Told}
 
@@ -20,8 +18,8 @@ told_of said =
     }
 
 -- a declined call's: the number, and no value
-abbrev pub told_refused : Refusal → Told
-told_refused r = told_of (declined (refusal_number r))
+abbrev pub told_refused : ℕ → Told
+told_refused n = told_of (declined n)
 
 -- a call that hands out no bytes
 abbrev pub quietly : Told → Cgb → Performed

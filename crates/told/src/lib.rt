@@ -33,12 +33,12 @@ pub struct Performed {
     pub state: Cgb,
 }
 
-// A declined call's: the number, and no value.
-pub fn refused(refusal: Refusal) -> Told
-    ensures { result ≡ told_refused refusal }
+// A declined call's: the number, and no value. It takes any number, as it did: a Refusal would ask more of its callers.
+pub fn refused(number: u8) -> Told
+    ensures { result ≡ told_refused number }
 {
     Told {
-        refusal: u8::from(refusal),
+        refusal: number,
         v0: 0,
         v1: 0,
         v2: 0,
@@ -60,7 +60,7 @@ pub fn of<T: Values>(answer: Result<T, Refusal>) -> Told
                 v3: four[3],
             }
         }
-        Err(refusal) => refused(refusal),
+        Err(refusal) => refused(u8::from(refusal)),
     }
 }
 
