@@ -81,15 +81,12 @@ impl<const N: usize> Buffer<N> {
     }
 }
 
-// The bytes from one place up to another, moved to the front: how many they are. A loop, since std has no copy_within.
+// The bytes from one place up to another, moved to the front: how many they are.
 fn to_front(buf: &mut [u8], from: usize, stop: usize) -> usize
     requires { (from ≤ stop) × (stop ≤ length buf.old) }
     ensures count { result ≡ stop - from }
     ensures moved { take result buf.new ≡ take result (drop from buf.old) }
 {
-    let n = stop - from;
-    for i in 0..n {
-        buf[i] = buf[from + i];
-    }
-    n
+    buf.copy_within(from..stop, 0);
+    stop - from
 }
