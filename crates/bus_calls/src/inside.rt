@@ -6,13 +6,17 @@ ghost use Rattle.bus_calls.specs.BusCall.{AnswersBus};
 ghost use Rattle.bus_calls.specs.Inside.{inside_arbitration, inside_bus};
 
 use crate::bus_call::vram_dma_commit_bytes;
-use crate::shared_bus::vram_dma_arbitrate_oam;
+use answers::decided::reached;
 use answers::{BusOutcome, Outcome};
 use bus::arbitration::{Arbitration, ArbitrationInput};
 use bus::commit::BusInput;
 use bus::hold::HoldInput;
 use console::Cgb;
+use console::vram_dma::VramDma;
 
+// Not by a call of the other form: a state that two calls hand to one function goes through memory, and a record of the replay takes a
+// third more instructions.
+#[tactic(auto, unfolding(crate::specs::Bus::arbitration_call_of, crate::specs::Bus::arbitration_said))]
 pub fn vram_dma_arbitrate_inside(state: Cgb, input: HoldInput) -> Outcome<Arbitration>
     ensures { Answers (outcome_says arbitration_values) (arbitration_call_of state (inside_arbitration state input))
         (arbitration_said state (inside_arbitration state input)) result }
@@ -22,7 +26,12 @@ pub fn vram_dma_arbitrate_inside(state: Cgb, input: HoldInput) -> Outcome<Arbitr
         suspended: input.suspended,
         oam_transferring: object_dma::runs(state.object_dma),
     };
-    vram_dma_arbitrate_oam(state, given)
+    let arbitrated = oam_arbitration::arbitrate_oam_bus(state.vram_dma, state.double_speed, given);
+    let vram_dma = VramDma {
+        oam: arbitrated.oam,
+        ..state.vram_dma
+    };
+    reached(state, arbitrated.answer, Cgb { vram_dma, ..state })
 }
 
 pub fn vram_dma_commit_bytes_inside(

@@ -40,7 +40,14 @@ pub extern "C" fn cgb_perform(
         *answer = answer::refused(number);
         return number;
     };
-    let done = perform::perform_record(before, record::decode(*call), cartridge, wram, vram, oam);
+    let done = perform::perform_record(
+        before.anew(),
+        record::decode(*call),
+        cartridge,
+        wram,
+        vram,
+        oam,
+    );
     *answer = answer::encode(done);
     *state = codec::encode(done.state);
     done.told.refusal

@@ -2,6 +2,7 @@
 // sets it and what looks at it.
 #![tactic(auto)]
 
+pub mod anew;
 pub mod object;
 pub mod power_on;
 pub mod refusal;

@@ -58,6 +58,6 @@ pub fn vram_dma_fall_edge(state: Cgb, input: FallInput) -> Outcome<VramDmaClaim>
     };
     Outcome {
         answer: judged.map(|fallen| fallen.claim),
-        state: fallen_state(state, judged.unwrap_or(unchanged)),
+        state: fallen_state(state, judged.unwrap_or(unchanged)).anew(),
     }
 }

@@ -22,11 +22,10 @@ fn still(d: VramDma) -> bool
 fn quiet(d: VramDma, input: FallInput) -> bool
     ensures { result ≡ quiet_of input d }
 {
-    let wants = match d.cursor.mode {
-        TransferMode::Idle => false,
-        TransferMode::General => true,
-        TransferMode::HBlank => (input.mode == 0) & !d.block.taken,
-    };
+    // By `==` and no match: with one the falls of a frame take a fifth longer.
+    let general = d.cursor.mode == TransferMode::General;
+    let armed = d.cursor.mode == TransferMode::HBlank;
+    let wants = general | (armed & (input.mode == 0) & !d.block.taken);
     ((d.cursor.remaining == 0) | !wants) & still(d) & !input.halted & !input.stopped
 }
 

@@ -23,7 +23,7 @@ pub fn perform(
     ensures { Performs state call cartridge.now wram.old vram.old oam.old
         result wram.new vram.new oam.new }
 {
-    match call {
+    let done = match call {
         Call::Write { address, input } => lent::write(state, wram, address, input),
         Call::Read(address) => lent::read(state, wram, address),
         Call::Bus(input) => lent::bus(state, input, cartridge, wram, vram, oam),
@@ -37,6 +37,10 @@ pub fn perform(
             oam,
         ),
         Call::Plain(plain) => plain::plain(state, plain),
+    };
+    Performed {
+        state: done.state.anew(),
+        ..done
     }
 }
 
