@@ -32,7 +32,7 @@ unfoldable pub record_step : ReplayPoint → List ℕ → Stepped
 record_step s bytes = step_of s.state s.wram (record_at_start bytes)
 
 unfoldable pub point_after : ReplayPoint → List ℕ → ReplayPoint
-point_after s bytes = point_of (record_step s bytes).state (record_wram s.state (record_at_start bytes).call s.wram)
+point_after s bytes = point_of (record_step s bytes).state (record_wram s.state (record_at_start bytes) s.wram)
 
 -- "source and destination of the pair (two bytes each, zero if none)": a record brings at most one pair, without one both are 0, and a
 -- refused record brings none

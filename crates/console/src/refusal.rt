@@ -46,6 +46,7 @@ impl From<Refusal> for u8 {
     }
 }
 
+// For a caller that shows a person why: the programs here print the number alone, as the papers ask.
 impl fmt::Display for Refusal {
     fn fmt<W: fmt::Write>(&self, f: &mut fmt::Formatter<W>) -> fmt::Result {
         match self {

@@ -1,9 +1,9 @@
 -- A step of the replay and a comparison are what the judge makes of a record. Assumes nothing.
-use Rattle.std.proofs.Common.{◌≡◌, ℕ, ◌+◌, ◌%◌, ◌^◌, Bool, true, false, not, ◌||◌, List, ◌∙◌, add-one}
+use Rattle.std.proofs.Common.{◌≡◌, ℕ, ◌+◌, ◌%◌, ◌^◌, Bool, true, false, not, ◌||◌, List, Option, ◌∙◌, add-one}
 use Rattle.arithmetic.specs.Number.{same_bytes}
 use Rattle.replay_step.specs.Record.{record_at_start}
 use Rattle.replay_step.specs.Step.{Steps}
-use Rattle.replay_step.specs.declared.read.Record.{Record}
+use Rattle.call.specs.declared.Call.{Call}
 use Rattle.replay_step.specs.declared.step.Stepped.{Stepped}
 use Rattle.board_log.specs.LogRecord.{log_record}
 use Rattle.board_log.specs.Records.{nth_record}
@@ -12,7 +12,7 @@ use Rattle.board_log.specs.Judging.{Hearing, hearing_of, point, is_own, judged_r
 use Rattle.board_log.specs.declared.judging.Judge.{Judge}
 
 module _
-    (j : Judge) (wram entry logged after : List ℕ) (e : Record) (t : Stepped) (same : Bool)
+    (j : Judge) (wram entry logged after : List ℕ) (e : Option Call) (t : Stepped) (same : Bool)
     (read : e ≡ record_at_start entry) (performed : Steps j.state wram e t after) (compared : same ≡ same_bytes logged (log_record t.line)) where
   pub differing :
       (j.differs || not same) ≡ true →

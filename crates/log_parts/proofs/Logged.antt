@@ -1,19 +1,19 @@
 -- A step of the replay and its record behind the others are the log of one record more. Assumes nothing.
-use Rattle.std.proofs.Common.{◌≡◌, ℕ, ◌+◌, List, ap, ◌∙◌, add-one}
+use Rattle.std.proofs.Common.{◌≡◌, ℕ, ◌+◌, List, Option, ap, ◌∙◌, add-one}
 use Rattle.text.specs.Text.{Pushed}
 use Rattle.text.specs.declared.Text.{Text}
 use Rattle.text.proofs.Stored.{then, reworded}
 use Rattle.console.specs.declared.Cgb.{Cgb}
 use Rattle.replay_step.specs.Record.{record_at_start}
 use Rattle.replay_step.specs.Step.{Steps}
-use Rattle.replay_step.specs.declared.read.Record.{Record}
+use Rattle.call.specs.declared.Call.{Call}
 use Rattle.replay_step.specs.declared.step.Stepped.{Stepped}
 use Rattle.board_log.specs.LogRecord.{log_record}
 use Rattle.board_log.specs.Records.{nth_record}
 use Rattle.board_log.specs.OwnLog.{ReplayPoint, point_of, record_step, point_after, point_at, own_record, own_records}
 
 module _
-    (s : ReplayPoint) (state : Cgb) (wram script entry : List ℕ) (k : ℕ) (e : Record) (t : Stepped) (wram_after : List ℕ)
+    (s : ReplayPoint) (state : Cgb) (wram script entry : List ℕ) (k : ℕ) (e : Option Call) (t : Stepped) (wram_after : List ℕ)
     (stands : point_of state wram ≡ point_at s script k) (next : entry ≡ nth_record script k) (read : e ≡ record_at_start entry)
     (performed : Steps state wram e t wram_after) where
   at_entry : e ≡ record_at_start (nth_record script k)

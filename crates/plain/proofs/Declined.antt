@@ -6,8 +6,8 @@ use mathlib.Core.List.{List}
 use Rattle.console.specs.Reached.{state_refusal}
 use Rattle.console.specs.declared.Cgb.{Cgb}
 use Rattle.answers.specs.Answers.{done_values, flag_values, pair_values, claim_values, switch_values, arbitration_values, conflict_values}
-use Rattle.engine.specs.Calls.{fall_refusal, fall_call_of, next_pair_of, arbitrated, arbitration_call_of, switch_refusal, switch_call_of, blackout_call_of}
-use Rattle.engine.specs.Calls.{wake_call_of, escape_drain_of, lcd_call_of, retired_call_of, conflict_found, asked, inside_arbitration}
+use Rattle.engine.specs.Calls.{fall_refusal, fall_call_of, next_pair_of, arbitration_call_of, switch_refusal, switch_call_of, blackout_call_of}
+use Rattle.engine.specs.Calls.{wake_call_of, escape_drain_of, lcd_call_of, retired_call_of, conflict_found, asked}
 use Rattle.ask.specs.Ask.{asked_of}
 use Rattle.ask.proofs.Asked.{asked_said}
 use Rattle.call.specs.declared.PlainCall.{PlainCall}

@@ -11,10 +11,10 @@ answer_layout p =
     record {
       size = refl;
       refusal = refl;
-      v0 = digits_back 2 p.told.v0;
-      v1 = digits_back 2 p.told.v1;
-      v2 = digits_back 2 p.told.v2;
-      v3 = digits_back 2 p.told.v3;
+      first_value = digits_back 2 (get_or p.told.values 0 0);
+      second_value = digits_back 2 (get_or p.told.values 1 0);
+      third_value = digits_back 2 (get_or p.told.values 2 0);
+      fourth_value = digits_back 2 (get_or p.told.values 3 0);
       first_source = digits_back 2 (get_or p.pairs 0 no_pair).source;
       first_dest = digits_back 2 (get_or p.pairs 0 no_pair).dest;
       second_source = digits_back 2 (get_or p.pairs 1 no_pair).source;

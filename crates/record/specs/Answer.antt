@@ -13,10 +13,10 @@ pair_bytes p = digits 2 p.source ++ digits 2 p.dest
 abbrev pub answer_bytes : Performed → List ℕ
 answer_bytes p =
     (p.told.refusal ∷ 0 ∷ [])
-    ++ digits 2 p.told.v0
-    ++ digits 2 p.told.v1
-    ++ digits 2 p.told.v2
-    ++ digits 2 p.told.v3
+    ++ digits 2 (get_or p.told.values 0 0)
+    ++ digits 2 (get_or p.told.values 1 0)
+    ++ digits 2 (get_or p.told.values 2 0)
+    ++ digits 2 (get_or p.told.values 3 0)
     ++ pair_bytes (get_or p.pairs 0 no_pair)
     ++ pair_bytes (get_or p.pairs 1 no_pair)
     ++ (get_or p.bytes 0 0 ∷ get_or p.bytes 1 0 ∷ get_or p.causes 0 0 ∷ get_or p.causes 1 0 ∷ 0 ∷ 0 ∷ [])

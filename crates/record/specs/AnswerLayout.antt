@@ -10,10 +10,10 @@ pub record AnswerLayout (p : Performed) : Type 0 where
   pub size : length (answer_bytes p) ≡ 24
   pub refusal : byte_at (answer_bytes p) 0 ≡ p.told.refusal
   -- the four values; of a next pair and an escape drain the last is the cause
-  pub v0 : p.told.v0 < 65536 → number_at (answer_bytes p) 2 2 ≡ p.told.v0
-  pub v1 : p.told.v1 < 65536 → number_at (answer_bytes p) 4 2 ≡ p.told.v1
-  pub v2 : p.told.v2 < 65536 → number_at (answer_bytes p) 6 2 ≡ p.told.v2
-  pub v3 : p.told.v3 < 65536 → number_at (answer_bytes p) 8 2 ≡ p.told.v3
+  pub first_value : get_or p.told.values 0 0 < 65536 → number_at (answer_bytes p) 2 2 ≡ get_or p.told.values 0 0
+  pub second_value : get_or p.told.values 1 0 < 65536 → number_at (answer_bytes p) 4 2 ≡ get_or p.told.values 1 0
+  pub third_value : get_or p.told.values 2 0 < 65536 → number_at (answer_bytes p) 6 2 ≡ get_or p.told.values 2 0
+  pub fourth_value : get_or p.told.values 3 0 < 65536 → number_at (answer_bytes p) 8 2 ≡ get_or p.told.values 3 0
   -- a bus call's pairs
   pub first_source : (get_or p.pairs 0 no_pair).source < 65536 → number_at (answer_bytes p) 10 2 ≡ (get_or p.pairs 0 no_pair).source
   pub first_dest : (get_or p.pairs 0 no_pair).dest < 65536 → number_at (answer_bytes p) 12 2 ≡ (get_or p.pairs 0 no_pair).dest

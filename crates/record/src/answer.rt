@@ -16,10 +16,11 @@ pub fn refused(number: u8) -> [u8; 24]
 pub fn encode(p: Performed) -> [u8; 24]
     ensures { result ≡ answer_bytes p }
 {
-    let v0 = p.told.v0.to_le_bytes();
-    let v1 = p.told.v1.to_le_bytes();
-    let v2 = p.told.v2.to_le_bytes();
-    let v3 = p.told.v3.to_le_bytes();
+    let [v0, v1, v2, v3] = p.told.values;
+    let v0 = v0.to_le_bytes();
+    let v1 = v1.to_le_bytes();
+    let v2 = v2.to_le_bytes();
+    let v3 = v3.to_le_bytes();
     let [first, second] = p.pairs;
     let first_source = first.source.to_le_bytes();
     let first_dest = first.dest.to_le_bytes();

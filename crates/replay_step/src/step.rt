@@ -1,14 +1,15 @@
 // What a record does, and the numbers of its line.
 ghost use Rattle.std.specs.Prelude.{◌≡◌};
-ghost use Rattle.replay_step.specs.Step.{line_of, pair_line_of, told_pair, Steps};
+ghost use Rattle.replay_step.specs.Step.{hands_pair, pair_line_of, told_pair, Steps};
 
-use crate::read::Record;
+use call::{Call, PlainCall};
 use console::Cgb;
 use told::Told;
 use transfer::pair::BytePair;
 
 // A line without its number: the refusal or 0, how many pairs came, what is left and FF55 after the record, and the pair with the
-// number of its cause (document 02, A3). The line shows the cause and not the pair, the board's log the pair and not the cause.
+// number of its cause (document 02, A3). The line shows the cause and not the pair, the board's log the pair and not the cause. Of numbers, 0
+// where no pair came, as both write them: an Option would be taken apart in each.
 #[derive(Clone, Copy)]
 pub struct Line {
     pub refusal: u8,
@@ -26,44 +27,15 @@ pub struct Stepped {
     pub state: Cgb,
 }
 
-// The line of a call without a pair.
-#[tactic(auto, unfolding(crate::specs::Step::line_of))]
-fn quiet(refusal: u8, state: Cgb) -> Stepped
-    ensures { result ≡ line_of refusal state }
+// Whether a call is one that hands out a pair.
+#[tactic(auto, unfolding(crate::specs::Step::hands_pair))]
+fn hands_pair(call: Option<Call>) -> bool
+    ensures { result ≡ hands_pair call }
 {
-    Stepped {
-        line: Line {
-            refusal,
-            pairs: 0,
-            left: state.vram_dma.cursor.remaining,
-            ff55: hdma::hdma5::status_byte(state.vram_dma),
-            source: 0,
-            dest: 0,
-            cause: 0,
-        },
-        state,
-    }
-}
-
-// The same of a call that may have told a pair, with the number of its cause.
-#[tactic(auto, unfolding(crate::specs::Step::pair_line_of, crate::specs::Step::line_of))]
-fn lined(refusal: u8, answer: Option<(BytePair, u16)>, state: Cgb) -> Stepped
-    ensures { result ≡ pair_line_of refusal answer state }
-{
-    let quiet = quiet(refusal, state);
-    let Some((pair, cause)) = answer else {
-        return quiet;
-    };
-    Stepped {
-        line: Line {
-            pairs: 1,
-            source: pair.source,
-            dest: pair.dest,
-            cause,
-            ..quiet.line
-        },
-        state,
-    }
+    matches!(
+        call,
+        Some(Call::Plain(PlainCall::NextPair | PlainCall::EscapeDrain))
+    )
 }
 
 // The pair that a call told, if it is one that hands out a pair, with the number of its cause.
@@ -71,19 +43,40 @@ fn lined(refusal: u8, answer: Option<(BytePair, u16)>, state: Cgb) -> Stepped
 fn handed(hands: bool, told: Told) -> Option<(BytePair, u16)>
     ensures { result ≡ told_pair hands told }
 {
-    let pair = BytePair {
-        source: told.v1,
-        dest: told.v2,
-    };
-    (hands & (told.v0 != 0)).then_some((pair, told.v3))
+    let [came, source, dest, cause] = told.values;
+    (hands & (came != 0)).then_some((BytePair { source, dest }, cause))
 }
 
-// A record at a state. A record of another kind, or a short one, gets 6.
+// The line of a call that may have told a pair, and the state.
+#[tactic(auto, unfolding(crate::specs::Step::pair_line_of, crate::specs::Step::line_of))]
+fn lined(refusal: u8, answer: Option<(BytePair, u16)>, state: Cgb) -> Stepped
+    ensures { result ≡ pair_line_of refusal answer state }
+{
+    let none = BytePair { source: 0, dest: 0 };
+    let (pair, cause) = answer.unwrap_or((none, 0));
+    Stepped {
+        line: Line {
+            refusal,
+            pairs: u8::from(answer.is_some()),
+            left: state.vram_dma.cursor.remaining,
+            ff55: hdma::hdma5::status_byte(state.vram_dma),
+            source: pair.source,
+            dest: pair.dest,
+            cause,
+        },
+        state: state.anew(),
+    }
+}
+
+// A record's call at a state. A record of another kind, or a short one, has none and gets 6.
 #[tactic(auto, unfolding(crate::specs::Step::step_of))]
-pub fn perform(state: Cgb, wram: &mut [u8], given: Record) -> Stepped
+pub fn perform(state: Cgb, wram: &mut [u8], given: Option<Call>) -> Stepped
     ensures { Steps state wram.old given result wram.new }
 {
-    let done = perform::perform_record(state, given.call, &[], wram, &mut [], &mut []);
-    let pair = handed(given.hands_pair, done.told);
-    lined(done.told.refusal, pair, done.state)
+    let done = perform::perform_record(state, given, &[], wram, &mut [], &mut []);
+    lined(
+        done.told.refusal,
+        handed(hands_pair(given), done.told),
+        done.state,
+    )
 }

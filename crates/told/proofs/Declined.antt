@@ -1,9 +1,8 @@
 -- A declined call leaves all as given (specs, `Declined`): one law on its refusal, whichever call it is. Assumes nothing.
 use Prim.Native.Nat.{ℕ}
-use mathlib.Core.Path.{◌≡◌, refl, ap, ◌∙◌}
-use mathlib.Core.List.{List, []}
+use mathlib.Core.Path.{◌≡◌, refl, ap}
+use mathlib.Core.List.{List}
 use Rattle.std.proofs.Common.{Option, Some, None}
-use Rattle.console.specs.Reached.{state_refusal}
 use Rattle.console.specs.Refusals.{answered, kept}
 use Rattle.console.specs.declared.Cgb.{Cgb}
 use Rattle.console.specs.declared.refusal.Refusal.{Refusal}

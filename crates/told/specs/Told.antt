@@ -1,7 +1,7 @@
 -- What an answer says, as numbers for a caller in another language: its number, then its values in the order of
 -- answers/specs/Answers, the spare ones 0.
-use Rattle.std.specs.Prelude.{ℕ, List, [], ◌∷◌, get_or}
-use Rattle.answers.specs.Answers.{Said, declined}
+use Rattle.std.specs.Prelude.{ℕ, [], ◌∷◌}
+use Rattle.answers.specs.Answers.{Said, four_of, declined}
 use Rattle.bus.specs.Deposit.{no_pair}
 use Rattle.console.specs.declared.Cgb.{Cgb}
 use Rattle.told.specs.declared.Performed.{Performed}
@@ -11,10 +11,7 @@ abbrev pub told_of : Said → Told
 told_of said =
     record {
       refusal = said.number;
-      v0 = get_or said.values 0 0;
-      v1 = get_or said.values 1 0;
-      v2 = get_or said.values 2 0;
-      v3 = get_or said.values 3 0;
+      values = four_of said.values;
     }
 
 -- a declined call's: the number, and no value

@@ -16,10 +16,7 @@ use transfer::pair::{BytePair, Cause};
 #[derive(Clone, Copy)]
 pub struct Told {
     pub refusal: u8,
-    pub v0: u16,
-    pub v1: u16,
-    pub v2: u16,
-    pub v3: u16,
+    pub values: [u16; 4],
 }
 
 // What a call said and left. The arrays are a bus call's, its pairs' causes as numbers, and an M-cycle call's byte is the first: of
@@ -39,10 +36,7 @@ pub fn refused(number: u8) -> Told
 {
     Told {
         refusal: number,
-        v0: 0,
-        v1: 0,
-        v2: 0,
-        v3: 0,
+        values: [0; 4],
     }
 }
 
@@ -51,14 +45,8 @@ pub fn of<T: Values>(answer: Result<T, Refusal>) -> Told
 {
     match answer {
         Ok(value) => {
-            let four = value.four();
-            Told {
-                refusal: 0,
-                v0: four[0],
-                v1: four[1],
-                v2: four[2],
-                v3: four[3],
-            }
+            let values = value.four();
+            Told { refusal: 0, values }
         }
         Err(refusal) => refused(u8::from(refusal)),
     }

@@ -1,4 +1,4 @@
-use Rattle.std.proofs.Common.{rules, sym, ◌∙◌}
+use Rattle.std.proofs.Common.{Some, rules, sym, ap, ◌∙◌}
 use Rattle.c_api.proofs.Entries.{entered_unreadable, entered_performed}
 use Rattle.c_api.proofs.cgb_perform.Goals as goal
 
@@ -7,5 +7,5 @@ returns-in_default c = entered_unreadable _ _ _ _ _ _ _ _ (sym c.decode.ensures 
 
 pub returns : goal.returns
 returns c =
-    entered_performed _ _ _ _ _ _ _ (sym c.decode.ensures ∙ c.in-Some.is) _ _ _ _ _ _ _ c.decode-2.ensures
+    entered_performed _ _ _ _ _ _ _ (sym c.decode.ensures ∙ c.in-Some.is ∙ ap Some (sym c.anew.ensures)) _ _ _ _ _ _ _ c.decode-2.ensures
     c.perform_record-done.ensures (search rules) (search rules)

@@ -1,5 +1,5 @@
 use Rattle.perform.proofs.Outcomes.{performs_write, performs_read, performs_bus, performs_bus_inside, performs_cycle, performs_plain}
-use Rattle.perform.proofs.perform.Goals as goal
+use Rattle.perform.proofs.dispatched.Goals as goal
 
 pub returns-in-Write : goal.returns-in-Write
 returns-in-Write c = performs_write _ _ _ _ _ _ _ _ _ _ c.in-Write.is c.write.ensures
