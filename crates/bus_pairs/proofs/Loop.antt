@@ -86,12 +86,12 @@ module _ (banks : Banks) (cartridge wram : List ℕ) where
   stops_at d r n pairs causes bytes vram e h = stops d n pairs causes bytes vram (rw e at h)
 
   pub goes_on_at :
-      (d : VramDma) (r : NextByte) (n : ℕ) (ps ps' : List BytePair) (ks ks' : List Cause) (bs bs' vram vram' : List ℕ) (p : BytePair) (k : Cause) (byte : ℕ) →
-      r ≡ next_byte_of d → r.answer ≡ Some (p, k) → byte ≡ hdma_byte cartridge wram banks.svbk p.source →
+      (d : VramDma) (r : NextByte) (n m : ℕ) (ps ps' : List BytePair) (ks ks' : List Cause) (bs bs' vram vram' : List ℕ) (p : BytePair) (k : Cause)
+      (byte : ℕ) → r ≡ next_byte_of d → r.answer ≡ Some (p, k) → m ≡ n + 1 → byte ≡ hdma_byte cartridge wram banks.svbk p.source →
       vram' ≡ vram_with vram banks.vram p.dest byte → ps' ≡ set ps n p → ks' ≡ set ks n k → bs' ≡ set bs n byte →
-      going_on r.dma (n + 1) ps' ks' bs' vram' ≡ going_on d n ps ks bs vram
-  goes_on_at d r n ps ps' ks ks' bs bs' vram vram' p k byte e h b v q c w =
-      rw (w, c, q, v, b, e) (goes_on d n ps ks bs vram p k (rw e at h))
+      going_on r.dma m ps' ks' bs' vram' ≡ going_on d n ps ks bs vram
+  goes_on_at d r n m ps ps' ks ks' bs bs' vram vram' p k byte e h one b v q c w =
+      rw (w, c, q, v, b, one, e) (goes_on d n ps ks bs vram p k (rw e at h))
 
   pub whole :
       (d : VramDma) (vram : List ℕ) →

@@ -10,7 +10,7 @@ use memory::put_at;
 use transfer::pair::{BytePair, Cause};
 
 // Pairs are taken until none comes: a loop that breaks there, since no iterator lends the memory that each pair changes. Each takes one from
-// quota, so that they end.
+// quota, so that they end, and what quota has lost is how many have moved.
 pub fn move_pairs(d: VramDma, banks: Banks, cartridge: &[u8], wram: &[u8], vram: &mut [u8]) -> Run
     ensures { record { run = result; vram = vram.new }
         ≡ loop_of banks cartridge.now wram.now d vram.old }
@@ -19,21 +19,20 @@ pub fn move_pairs(d: VramDma, banks: Banks, cartridge: &[u8], wram: &[u8], vram:
     let mut pairs = [BytePair { source: 0, dest: 0 }; 2];
     let mut causes = [Cause::GoingOn; 2];
     let mut bytes = [0u8; 2];
-    let mut count = 0;
-    loop {
+    let count = loop {
+        let moved = d.cursor.quota - dma.cursor.quota;
         let next = next_pair::next_byte(dma);
         let Some((pair, cause)) = next.answer else {
-            break;
+            break moved;
         };
         dma = next.dma;
         let byte = bus_memory::source::read_hdma_source(cartridge, wram, banks.svbk, pair.source);
         bus_memory::store::commit_vram(vram, banks.vram, pair.dest, byte);
-        let place = count as usize;
+        let place = moved as usize;
         put_at(&mut pairs, place, pair);
         put_at(&mut causes, place, cause);
         put_at(&mut bytes, place, byte);
-        count += 1;
-    }
+    };
     Run {
         dma,
         count,
