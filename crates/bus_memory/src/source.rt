@@ -3,6 +3,7 @@
 ghost use Rattle.std.specs.Prelude.{◌≡◌};
 ghost use Rattle.bus.specs.Source.{source_byte, hdma_byte, object_byte};
 
+use crate::vram_index;
 use bus::commit::Banks;
 use memory::byte_at;
 
@@ -39,7 +40,6 @@ pub fn read_object_source(
 ) -> u8
     ensures { result ≡ object_byte banks cartridge.now wram.now vram.now address }
 {
-    let within = address.saturating_sub(0x8000);
-    let video = byte_at(vram, (banks.vram as usize) * 8192 + (within as usize));
+    let video = byte_at(vram, vram_index(banks.vram, address));
     read_source(video, cartridge, wram, banks.svbk, address)
 }

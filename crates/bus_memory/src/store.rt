@@ -2,14 +2,14 @@
 ghost use Rattle.std.specs.Prelude.{◌≡◌};
 ghost use Rattle.bus.specs.Store.{vram_with, oam_with};
 
+use crate::vram_index;
 use memory::put_at;
 
 // A byte for VRAM, in the bank of FF4F.
 pub fn commit_vram(vram: &mut [u8], bank: u8, address: u16, byte: u8)
     ensures { vram.new ≡ vram_with vram.old bank address byte }
 {
-    let within = address.saturating_sub(0x8000);
-    put_at(vram, (bank as usize) * 8192 + (within as usize), byte);
+    put_at(vram, vram_index(bank, address), byte);
 }
 
 // A byte for OAM. Above FE9F nothing is stored.
