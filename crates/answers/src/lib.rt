@@ -2,6 +2,7 @@
 #![tactic(auto)]
 
 pub mod decided;
+pub mod lent;
 pub mod query;
 pub mod values;
 

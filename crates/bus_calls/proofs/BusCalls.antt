@@ -1,36 +1,48 @@
 -- The bus call, declined and accepted, from what its parts give. Assumes nothing.
 use Prim.Native.Nat.{ℕ}
-use mathlib.Core.Path.{◌≡◌, ap, ◌∙◌}
-use mathlib.Core.Bool.{true, false}
-use mathlib.Core.List.{List}
-use Rattle.std.proofs.Common.{Option, Some, None, Result, Ok, Err}
+use mathlib.Core.Path.{◌≡◌, refl, ap, ◌∙◌}
+use mathlib.Core.List.{List, [], ◌∷◌}
+use lib.ListN.{length}
+use Rattle.std.proofs.Common.{Option, Some, None, Ok, Err}
 use Rattle.console.specs.Reached.{unreached}
+use Rattle.console.specs.Refusals.{◌⇒◌, first_of, answered}
 use Rattle.console.specs.Set.{with_vram_dma}
 use Rattle.console.specs.declared.Cgb.{Cgb}
 use Rattle.console.specs.declared.refusal.Refusal.{Refusal}
 use Rattle.console.specs.declared.refusal.Refusal.TheVariants.{State, Length}
+use Rattle.memory.specs.Lengths.{wrong_lengths}
 use Rattle.bus.specs.Commit.{bytes_of, first_two, run_of, Committed}
 use Rattle.bus.specs.declared.commit.BusInput.{BusInput}
 use Rattle.bus.specs.declared.commit.Run.{Run}
-use Rattle.memory.specs.Lengths.{wrong_lengths}
-use Rattle.bus_calls.specs.BusCall.{Lengths, lengths_of, bus_refusal, banks_of, refused_bus, AnswersBus}
+use Rattle.bus_calls.specs.BusCall.{lengths_of, bus_refusal, banks_of, refused_bus, AnswersBus}
 use Rattle.bus_calls.specs.BusCall.{bus_pairs, bus_causes, bus_answer, bus_state, bus_said, bus_bytes, bus_vram, bus_oam, bus_of}
 use Rattle.answers.specs.Answers.{cause_numbers, bus_outcome_says}
 use Rattle.answers.specs.declared.BusOutcome.{BusOutcome}
 use Rattle.bus_calls.proofs.Says.{bus_told, causes_told}
 
-module _ (s : Cgb) (n : Lengths) where
-  pub refused_7 : unreached s ≡ true → bus_refusal s n ≡ Some State
-  unfolding bus_refusal
-  refused_7 h = rw h
+refused : {A : Type 0} (k : Option Refusal) (value : A) (r : Refusal) → answered k value ≡ Err r → k ≡ Some r
+refused None value r e = cc
+refused (Some j) value r e = cc
 
-  pub refused_2 : unreached s ≡ false → wrong_lengths n.cartridge n.wram n.vram n.oam ≡ true → bus_refusal s n ≡ Some Length
-  unfolding bus_refusal
-  refused_2 h w = rw (h, w)
+accepted : {A : Type 0} (k : Option Refusal) (value given : A) → answered k value ≡ Ok given → k ≡ None
+accepted None value given e = refl
+accepted (Some j) value given e = cc
 
-  pub accepted : unreached s ≡ false → wrong_lengths n.cartridge n.wram n.vram n.oam ≡ false → bus_refusal s n ≡ None
+-- what the tests in front of the call's work answer tells its refusal
+module _ (s : Cgb) (cartridge wram vram oam : List ℕ) where
+  abbrev reasons : Option Refusal
+  reasons =
+      first_of ((unreached s ⇒ State) ∷ (wrong_lengths (length cartridge) (length wram) (length vram) (length oam) ⇒ Length) ∷ [])
+
+  pub refused_by :
+      {A : Type 0} (value : A) (r : Refusal) → answered reasons value ≡ Err r → bus_refusal s (lengths_of cartridge wram vram oam) ≡ Some r
   unfolding bus_refusal
-  accepted h w = rw (h, w)
+  refused_by value r e = refused reasons value r e
+
+  pub accepted_by :
+      {A : Type 0} (value given : A) → answered reasons value ≡ Ok given → bus_refusal s (lengths_of cartridge wram vram oam) ≡ None
+  unfolding bus_refusal
+  accepted_by value given e = accepted reasons value given e
 
 -- the call's result from its part's
 abbrev moved_of : Cgb → Run → BusOutcome

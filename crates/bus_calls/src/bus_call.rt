@@ -2,6 +2,7 @@
 ghost use Rattle.bus_calls.specs.BusCall.{refused_bus, AnswersBus};
 ghost use Rattle.std.specs.Prelude.{◌≡◌};
 
+use answers::lent::all_lent;
 use answers::{BusOutcome, Moved};
 use bus::commit::{Banks, BusInput};
 use console::Cgb;
@@ -31,11 +32,8 @@ pub fn vram_dma_commit_bytes(
     ensures { AnswersBus state input cartridge.now wram.now vram.old oam.old
         result vram.new oam.new }
 {
-    if state.unreached() {
-        return refused(state, Refusal::State);
-    }
-    if memory::wrong_lengths(cartridge.len(), wram.len(), vram.len(), oam.len()) {
-        return refused(state, Refusal::Length);
+    if let Err(refusal) = all_lent(state, cartridge, wram, vram, oam) {
+        return refused(state, refusal);
     }
     let banks = Banks {
         svbk: state.svbk,

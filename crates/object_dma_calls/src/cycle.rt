@@ -3,6 +3,7 @@ ghost use Rattle.std.specs.Prelude.{◌≡◌, ◌<◌};
 ghost use Rattle.object_dma.specs.ObjectDma.{after_byte};
 ghost use Rattle.object_dma_calls.specs.Cycle.{refused_cycle, Took, AnswersCycle};
 
+use answers::lent::all_lent;
 use answers::{Cycle, Cycled};
 use bus::arbitration::Arbitration;
 use bus::commit::Banks;
@@ -99,11 +100,8 @@ pub fn object_dma_m_cycle(
     ensures { AnswersCycle state arbitration cartridge.now wram.now vram.now oam.old
         result oam.new }
 {
-    if state.unreached() {
-        return refused(state, Refusal::State);
-    }
-    if memory::wrong_lengths(cartridge.len(), wram.len(), vram.len(), oam.len()) {
-        return refused(state, Refusal::Length);
+    if let Err(refusal) = all_lent(state, cartridge, wram, vram, oam) {
+        return refused(state, refusal);
     }
     let banks = Banks {
         svbk: state.svbk,
