@@ -19,6 +19,9 @@ pub struct Banks {
     pub vram: u8,
 }
 
+// The two places for pairs with none in them.
+pub const NO_PAIRS: [BytePair; 2] = [BytePair { source: 0, dest: 0 }; 2];
+
 // The pairs of a call, how many there were, their causes and their bytes; the engine after them. A count beside arrays, and no list:
 // document 01 gives a bus call's answer so.
 #[derive(Clone, Copy)]

@@ -4,17 +4,17 @@ ghost use Rattle.std.specs.Prelude.{◌≡◌};
 
 use answers::lent::all_lent;
 use answers::{BusOutcome, Moved};
-use bus::commit::{Banks, BusInput};
+use bus::commit::{Banks, BusInput, NO_PAIRS};
 use console::Cgb;
 use console::refusal::Refusal;
-use transfer::pair::{BytePair, Cause};
+use transfer::pair::Cause;
 
 fn refused(state: Cgb, refusal: Refusal) -> BusOutcome
     ensures { result ≡ refused_bus refusal state }
 {
     BusOutcome {
         answer: Err(refusal),
-        pairs: [BytePair { source: 0, dest: 0 }; 2],
+        pairs: NO_PAIRS,
         causes: [Cause::GoingOn; 2],
         bytes: [0u8; 2],
         state,

@@ -4,9 +4,9 @@
 ghost use Rattle.std.specs.Prelude.{◌≡◌};
 ghost use Rattle.bus.specs.Commit.{idle_run, Committed};
 
-use bus::commit::{Banks, BusInput, Run};
+use bus::commit::{Banks, BusInput, NO_PAIRS, Run};
 use console::vram_dma::{HblankBlock, VramDma};
-use transfer::pair::{BytePair, Cause};
+use transfer::pair::Cause;
 
 // A call that moves no pair, with the engine after it; `setup_cell`: a set-up cell used it up.
 fn idle(dma: VramDma, setup_cell: bool) -> Run
@@ -15,7 +15,7 @@ fn idle(dma: VramDma, setup_cell: bool) -> Run
     Run {
         dma,
         count: 0,
-        pairs: [BytePair { source: 0, dest: 0 }; 2],
+        pairs: NO_PAIRS,
         causes: [Cause::GoingOn; 2],
         bytes: [0; 2],
         setup_cell,

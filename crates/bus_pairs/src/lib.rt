@@ -4,10 +4,10 @@
 ghost use Rattle.std.specs.Prelude.{◌≡◌};
 ghost use Rattle.bus.specs.Commit.{Ran, loop_of};
 
-use bus::commit::{Banks, Run};
+use bus::commit::{Banks, NO_PAIRS, Run};
 use console::vram_dma::VramDma;
 use memory::put_at;
-use transfer::pair::{BytePair, Cause};
+use transfer::pair::Cause;
 
 // Pairs are taken until none comes: a loop that breaks there, since no iterator lends the memory that each pair changes. Each takes one from
 // quota, so that they end, and what quota has lost is how many have moved.
@@ -16,7 +16,7 @@ pub fn move_pairs(d: VramDma, banks: Banks, cartridge: &[u8], wram: &[u8], vram:
         ≡ loop_of banks cartridge.now wram.now d vram.old }
 {
     let mut dma = d;
-    let mut pairs = [BytePair { source: 0, dest: 0 }; 2];
+    let mut pairs = NO_PAIRS;
     let mut causes = [Cause::GoingOn; 2];
     let mut bytes = [0u8; 2];
     let count = loop {

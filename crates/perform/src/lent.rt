@@ -6,12 +6,11 @@ ghost use Rattle.engine.specs.Calls.{inside_bus};
 
 use answers::BusOutcome;
 use bus::arbitration::Arbitration;
-use bus::commit::BusInput;
+use bus::commit::{BusInput, NO_PAIRS};
 use bus::hold::HoldInput;
 use console::Cgb;
 use map_write::WriteInput;
 use told::Performed;
-use transfer::pair::BytePair;
 
 #[tactic(auto, unfolding(crate::specs::Perform::write_performed))]
 pub fn write(state: Cgb, wram: &mut [u8], address: u16, input: WriteInput) -> Performed
@@ -88,7 +87,7 @@ pub fn cycle(
     let cycled = engine::object_dma_m_cycle(state, arbitration, cartridge, wram, vram, oam);
     Performed {
         told: told::of(cycled.answer),
-        pairs: [BytePair { source: 0, dest: 0 }; 2],
+        pairs: NO_PAIRS,
         causes: [0u8; 2],
         bytes: [cycled.byte, 0],
         state: cycled.state,

@@ -8,6 +8,7 @@ ghost use Rattle.told.specs.Told.{told_of, told_refused, quietly, telling};
 
 use answers::Outcome;
 use answers::values::{Values, cause_number};
+use bus::commit::NO_PAIRS;
 use console::Cgb;
 use console::refusal::Refusal;
 use transfer::pair::{BytePair, Cause};
@@ -58,7 +59,7 @@ pub fn quiet(told: Told, state: Cgb) -> Performed
 {
     Performed {
         told,
-        pairs: [BytePair { source: 0, dest: 0 }; 2],
+        pairs: NO_PAIRS,
         causes: [0u8; 2],
         bytes: [0u8; 2],
         state,
