@@ -21,7 +21,8 @@ fn coinciding(count: u8, phase: u64) -> usize
     if second { 1 } else { 0 }
 }
 
-// The coinciding byte lands in OAM, at the low byte of its source.
+// The coinciding byte lands in OAM, at the low byte of its source. Count, pairs and bytes are parts of a `Run` and come alone: the
+// whole would ask a caller for an engine and for causes that nothing here looks at.
 #[tactic(auto, unfolding(bus::specs::Deposit::deposited))]
 pub fn deposit(
     oam: &mut [u8],
