@@ -8,7 +8,7 @@ ghost use Rattle.memory.specs.Lengths.{wrong_lengths};
 use console::Cgb;
 use console::refusal::Refusal;
 
-// 7, then 2 of all four slices.
+// 7, then 2 of all four slices. They come one by one, as the calls have them: a call borrows them in its own way.
 #[tactic(auto, unfolding(console::specs::Reached::state_refusal))]
 pub fn all_lent(
     state: Cgb,

@@ -26,14 +26,15 @@ pub struct Tally {
     pub escape_byte: bool,
 }
 
-// How many pairs a bus call moved, and whether a set-up cell used it up.
+// How many pairs a bus call moved, and whether a set-up cell used it up. Both always stand, so no Option.
 #[derive(Clone, Copy)]
 pub struct Moved {
     pub count: u8,
     pub setup_cell: bool,
 }
 
-// Of pairs, causes and bytes the first `count` places are used, the others are 0 and going on.
+// Of pairs, causes and bytes the first `count` places are used, the others are 0 and going on. The paper's form, a count and arrays
+// beside it: a list would need a heap.
 #[derive(Clone, Copy)]
 pub struct BusOutcome {
     pub answer: Result<Moved, Refusal>,
@@ -46,14 +47,15 @@ pub struct BusOutcome {
 // What an M-cycle call made of object DMA's next byte, with the byte's source.
 #[derive(Clone, Copy)]
 pub enum Cycle {
-    // At rest or stalled.
+    // At rest or stalled. One of the paper's three outcomes, so no Option around the other two.
     Nothing,
     Moved(u16),
     // Contended: counted, not moved.
     PassedOver(u16),
 }
 
-// The byte is 0 where none moved.
+// The byte is 0 where none moved. It stands beside the answer and not in `Moved`, so that answer and state look at no more of the
+// memory than its lengths.
 #[derive(Clone, Copy)]
 pub struct Cycled {
     pub answer: Result<Cycle, Refusal>,

@@ -31,6 +31,6 @@ pub struct Run {
     pub pairs: [BytePair; 2],
     pub causes: [Cause; 2],
     pub bytes: [u8; 2],
-    // The call went to a set-up cell.
+    // The call went to a set-up cell. A flag beside the count, and no Option: both always stand.
     pub setup_cell: bool,
 }

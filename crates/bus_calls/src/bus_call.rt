@@ -21,6 +21,7 @@ fn refused(state: Cgb, refusal: Refusal) -> BusOutcome
     }
 }
 
+// The slices come one by one: each call borrows them in its own way, this one VRAM and OAM to write, and C hands them so.
 pub fn vram_dma_commit_bytes(
     state: Cgb,
     input: BusInput,

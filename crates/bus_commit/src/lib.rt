@@ -22,6 +22,7 @@ fn idle(dma: VramDma, setup_cell: bool) -> Run
     }
 }
 
+// The slices come one by one: it reads two and writes two, and hands on to each part those that the part looks at.
 pub fn commit_bytes(
     d: VramDma,
     banks: Banks,

@@ -30,7 +30,7 @@ pub fn read_hdma_source(cartridge: &[u8], wram: &[u8], svbk: u8, address: u16) -
     read_source(0xFF, cartridge, wram, svbk, address)
 }
 
-// Object DMA reads VRAM too, in the bank of FF4F.
+// Object DMA reads VRAM too, in the bank of FF4F. The slices come one by one: this call reads three, a bus call reads two and writes two.
 pub fn read_object_source(
     banks: Banks,
     cartridge: &[u8],

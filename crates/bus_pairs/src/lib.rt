@@ -10,7 +10,8 @@ use memory::put_at;
 use transfer::pair::Cause;
 
 // Pairs are taken until none comes: a loop that breaks there, since no iterator lends the memory that each pair changes. Each takes one from
-// quota, so that they end, and what quota has lost is how many have moved.
+// quota, so that they end, and what quota has lost is how many have moved. The slices come one by one: the loop reads two, writes VRAM,
+// and is not lent OAM.
 pub fn move_pairs(d: VramDma, banks: Banks, cartridge: &[u8], wram: &[u8], vram: &mut [u8]) -> Run
     ensures { record { run = result; vram = vram.new }
         ≡ loop_of banks cartridge.now wram.now d vram.old }

@@ -11,7 +11,7 @@ use console::Cgb;
 use console::object::ObjectDma;
 use console::refusal::Refusal;
 
-// What became of the next byte, and object DMA after it.
+// What became of the next byte, and object DMA after it. The byte stands beside the answer, as in `Cycled`.
 #[derive(Clone, Copy)]
 pub struct ByteTaken {
     pub answer: Cycle,
@@ -33,6 +33,7 @@ fn count_byte(o: ObjectDma) -> ObjectDma
     }
 }
 
+// The slices come one by one: it writes OAM alone, where a bus call writes VRAM too, and C hands them so.
 #[tactic(auto, unfolding(crate::specs::Cycle::cycle_answer_of, crate::specs::Cycle::after_cycle, crate::specs::Cycle::byte_moved, crate::specs::Cycle::oam_after_cycle))]
 fn take_byte(
     object: ObjectDma,
