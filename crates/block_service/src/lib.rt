@@ -1,4 +1,6 @@
-// Step 6 of a fall: blinds, commit, tenure, new pend, readiness, quota, seize count.
+// Step 6 of a fall: blinds, commit, tenure, new pend, readiness, quota, seize count. `committing` is a bool and no closure: each step
+// is a definition of the paper over that flag, with one equation for both cases, and `decide` decides once, for the steps and the claim;
+// a closure would hide the decision from the contract.
 #![tactic(auto)]
 
 ghost use Rattle.std.specs.Prelude.{◌≡◌};

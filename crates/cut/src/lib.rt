@@ -1,5 +1,6 @@
 // What a switch makes of the engine (speed_switch.rs, `attempt_speed_switch`): upward a latched block is cut or
-// discarded, downward the engine stays as it is.
+// discarded, downward the engine stays as it is. `up` is a bool and no closure: the outcome and the engine after are definitions of the
+// paper over that flag, with one equation for both directions, and the switch decides once; a closure would hide it from the contract.
 #![tactic(auto)]
 
 ghost use Rattle.std.specs.Prelude.{◌≡◌};

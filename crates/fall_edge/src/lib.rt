@@ -55,6 +55,8 @@ fn fell(dma: VramDma) -> Fallen
     }
 }
 
+// `gated` is a bool and no closure: the paper's steps 3 to 6 are one definition over that flag, and the fall decides once, of its
+// input; a closure would hide the decision from the contract.
 #[tactic(auto, unfolding(fall_stages::specs::Fall::ran_of))]
 fn run(d: VramDma, v: View, gated: bool) -> Fallen
     ensures { result ≡ ran_of gated v d }

@@ -1,4 +1,6 @@
-// The block's part of each stage.
+// The block's part of each stage. A bool that says whether a step runs (`back`, `joins`, `takes`, `committing`, `seizes`) is no
+// closure: each step is a definition of the paper over its flag, with one equation for both cases, and the stage decides once, for the
+// arbiter too; a closure would hide the decision from the contract.
 #![tactic(auto)]
 
 ghost use Rattle.std.specs.Prelude.{◌≡◌};
