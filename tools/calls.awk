@@ -158,7 +158,8 @@ function ask_law(    i, k) {
 
 function kind_code(    i, k) {
     folder("crates/record/src/kind.rt"); out("crates/record/src/kind.rt")
-    print "// The kinds of the calls that are lent no memory. Written by tools/calls from calls.txt." > to
+    print "// The kinds of the calls that are lent no memory. Written by tools/calls from calls.txt. A number of the record's alone, so it is" > to
+    print "// a match here and no TryFrom of `Query`: that would need an error type that is dropped." > to
     print "ghost use Rattle.std.specs.Prelude.{◌≡◌};" > to
     print "ghost use Rattle.record.specs.Kind.{plain_of, query_of, query_kind};" > to
     print "" > to

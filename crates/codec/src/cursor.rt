@@ -6,7 +6,8 @@ ghost use Rattle.codec.specs.Cursor.{mode_of, cursor_bytes, cursor_of};
 use crate::run::{bytes_at, place};
 use console::vram_dma::{TransferCursor, TransferMode};
 
-// The mode whose number is `x`; what is no mode's number reads as HBlank, and is then not canonical.
+// The mode whose number is `x`; what is no mode's number reads as HBlank, and is then not canonical. So every byte reads as a mode: no
+// TryFrom, which would refuse some, and the type has no From, since that reading is this layout's alone.
 fn mode_of(x: u8) -> TransferMode
     ensures { result ≡ mode_of x }
 {

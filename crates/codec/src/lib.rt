@@ -1,4 +1,5 @@
-// The state as 248 bytes at fixed offsets, and back (docs/STATE-LAYOUT.md).
+// The state as 248 bytes at fixed offsets, and back (docs/STATE-LAYOUT.md). Every field is put and read at its own offset by hand: a
+// derive knows nothing of the layout.
 #![tactic(auto)]
 
 mod arb;

@@ -33,7 +33,7 @@ pub(crate) fn put_registers(out: &mut [u8; 248], s: Cgb)
     place(out, 49, &rest);
 }
 
-// The wake latency: bytes 49 and 50.
+// The wake latency: bytes 49 and 50. Any two bytes read as one, a flag above 1 as a 1, so there is no TryFrom.
 pub(crate) fn latency_of(b: &[u8; 248]) -> Option<u8>
     ensures { result ≡ latency_of (byte_at b.now 49) (byte_at b.now 50) }
 {

@@ -8,7 +8,7 @@ use console::vram_dma::VramDma;
 // What a fall is given.
 #[derive(Clone, Copy)]
 pub struct FallInput {
-    // 0 to 3; 0 is HBlank.
+    // 0 to 3; 0 is HBlank. A number and no enum: a caller may hand any, and one above 3 is declined with refusal 1.
     pub mode: u8,
     pub halted: bool,
     pub irq_latched: bool,
@@ -18,7 +18,8 @@ pub struct FallInput {
     pub oam_owns_bus: bool,
 }
 
-// What every stage of one fall sees.
+// What every stage of one fall sees. It goes beside the engine, not in a struct with it: each stage makes the engine anew, and the view
+// stands through the fall.
 #[derive(Clone, Copy)]
 pub struct View {
     pub in_hblank: bool,

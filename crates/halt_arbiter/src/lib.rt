@@ -1,6 +1,7 @@
 // The arbiter's part of each stage. A bool that says whether a step runs (`back`, `joins`, `pends`, `grants`, `committing`) is no
 // closure: each step is a definition of the paper over its flag, with one equation for both cases, and the stage decides once, for the
-// block too; a closure would hide the decision from the contract.
+// block too; a closure would hide the decision from the contract. `pend_if`, `grant_if` and `tenure_if` are no twins: each is its own
+// step, of other fields.
 #![tactic(auto)]
 
 ghost use Rattle.std.specs.Prelude.{◌≡◌, ◌&&◌};

@@ -1,6 +1,7 @@
 // The block's part of each stage. A bool that says whether a step runs (`back`, `joins`, `takes`, `committing`, `seizes`) is no
 // closure: each step is a definition of the paper over its flag, with one equation for both cases, and the stage decides once, for the
-// arbiter too; a closure would hide the decision from the contract.
+// arbiter too; a closure would hide the decision from the contract. `drop_if` and `take_if` are no twins: each is its own step, of other
+// fields.
 #![tactic(auto)]
 
 ghost use Rattle.std.specs.Prelude.{◌≡◌};

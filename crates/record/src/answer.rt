@@ -4,7 +4,7 @@ ghost use Rattle.record.specs.Answer.{answer_bytes, refused_bytes};
 
 use told::Performed;
 
-// A refused call's record: the number and zeros.
+// A refused call's record: the number and zeros. Any number, as ever: to take a `Refusal` would ask more of its callers.
 pub fn refused(number: u8) -> [u8; 24]
     ensures { result ≡ refused_bytes number }
 {

@@ -1,4 +1,5 @@
-// The kinds of the calls that are lent no memory. Written by tools/calls from calls.txt.
+// The kinds of the calls that are lent no memory. Written by tools/calls from calls.txt. A number of the record's alone, so it is
+// a match here and no TryFrom of `Query`: that would need an error type that is dropped.
 ghost use Rattle.std.specs.Prelude.{◌≡◌};
 ghost use Rattle.record.specs.Kind.{plain_of, query_of, query_kind};
 

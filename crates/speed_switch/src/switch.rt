@@ -12,7 +12,7 @@ use cut::SwitchOutcome;
 pub struct SwitchInput {
     // A bus master holds the CPU.
     pub hold: bool,
-    // 0 to 3, or 4 for none.
+    // 0 to 3, or 4 for none. A number and no enum: a caller may hand any, and one above 4 is declined with refusal 3.
     pub dot_phase: u8,
     // An interrupt is pending with IME set.
     pub interrupt_ready: bool,

@@ -19,7 +19,7 @@ pub enum Cause {
     Carried,
 }
 
-// The pair, if one came, with how the run goes on.
+// The pair, if one came, with how the run goes on, and the engine after: it stands in both cases, so there is no Option around the two.
 #[derive(Clone, Copy)]
 pub struct NextByte {
     pub answer: Option<(BytePair, Cause)>,
