@@ -3,3 +3,4 @@ pub mod Choice
 pub mod SmallSteps
 pub mod Digits
 pub mod Same
+pub mod Copied

@@ -1,5 +1,5 @@
--- Runs of bytes: what is copied into one and out of one, and what stands in it. Assumes nothing.
-use Rattle.std.proofs.Common.{◌≡◌, ℕ, zero, suc, ◌+◌, ◌-◌, ◌<◌, ◌≤◌, List, ◌∷◌, length, get_or, take, drop, drop-cons, slice_range, refl, sym, ap, ◌∙◌, arith}
+-- Runs of bytes: what is copied into one, and what stands in it. Assumes nothing.
+use Rattle.std.proofs.Common.{◌≡◌, ℕ, zero, suc, ◌+◌, ◌<◌, ◌≤◌, List, length, get_or, refl, sym, ap, ◌∙◌}
 use Rattle.std.proofs.lemmas.List.Edits.{sets, sets-eq}
 use Rattle.std.proofs.lemmas.Slice.{put_mid-paste}
 use Rattle.std.proofs.Math.Seq.{take-length}
@@ -12,14 +12,6 @@ pub placed :
     (out part new : List ℕ) (at k : ℕ) → new ≡ part → k ≡ length part → at + length part ≤ length out →
     put_mid at k out new ≡ sets out at part
 placed out part new at k e n h = put_mid-paste at k out new part (length part) e (sym n) refl ∙ rw take-length (sym (sets-eq part out at h))
-
--- a part copied out of one is the bytes from its offset on
-copied : (b : List ℕ) (k n : ℕ) → k + n ≤ length b → take n (drop k b) ≡ bytes_at b k n
-copied b k zero h = refl
-copied b k (suc n) h = rw (drop-cons b k 0 (omega arith)) (ap (λ l. get_or b k 0 ∷ l) (copied b (suc k) n (omega arith)))
-
-pub between_bytes : (b : List ℕ) (k n : ℕ) → k + n ≤ length b → slice_range b k (k + n) ≡ bytes_at b k n
-between_bytes b k n h = let e : k + n - k ≡ n = omega arith in rw e (copied b k n h)
 
 -- the bytes from an offset on, and how many they are
 pub part_byte : (b : List ℕ) (at n i : ℕ) → i < n → get_or (bytes_at b at n) i 0 ≡ get_or b (at + i) 0

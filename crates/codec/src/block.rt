@@ -3,7 +3,8 @@ ghost use Rattle.std.specs.Prelude.{◌≡◌};
 ghost use Rattle.std.proofs.lemmas.List.Edits.{sets};
 ghost use Rattle.codec.specs.Block.{block_bytes, block_of};
 
-use crate::run::{bytes_at, place};
+use crate::run::place;
+use arithmetic::bytes::bytes_at;
 use console::vram_dma::HblankBlock;
 use countdown::Countdown;
 

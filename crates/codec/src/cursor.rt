@@ -3,7 +3,8 @@ ghost use Rattle.std.specs.Prelude.{◌≡◌};
 ghost use Rattle.std.proofs.lemmas.List.Edits.{sets};
 ghost use Rattle.codec.specs.Cursor.{mode_of, cursor_bytes, cursor_of};
 
-use crate::run::{bytes_at, place};
+use crate::run::place;
+use arithmetic::bytes::bytes_at;
 use console::vram_dma::{TransferCursor, TransferMode};
 
 // The mode whose number is `x`; what is no mode's number reads as HBlank, and is then not canonical. So every byte reads as a mode: no

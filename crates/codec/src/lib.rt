@@ -15,6 +15,7 @@ ghost use Rattle.std.specs.Prelude.{◌≡◌};
 ghost use Rattle.codec.specs.Codec.{encode_of, dma_of, state_of, decode_of};
 
 use arb::{arb_of, put_arb};
+use arithmetic::bytes::bytes_at;
 use block::{block_of, put_block};
 use console::vram_dma::VramDma;
 use console::{Cgb, CgbVram};
@@ -22,7 +23,7 @@ use cursor::{cursor_of, put_cursor};
 use oam::{oam_of, put_oam};
 use object::{object_of, put_object};
 use rest::{console_of, latency_of, put_bank, put_extra, put_registers};
-use run::{bytes_at, same};
+use run::same;
 
 #[tactic(auto, unfolding(crate::proofs::State::sized))]
 pub fn encode(state: Cgb) -> [u8; 248]

@@ -3,7 +3,8 @@ ghost use Rattle.std.specs.Prelude.{◌≡◌};
 ghost use Rattle.std.proofs.lemmas.List.Edits.{sets};
 ghost use Rattle.codec.specs.Object.{object_bytes, object_of};
 
-use crate::run::{bytes_at, place};
+use crate::run::place;
+use arithmetic::bytes::bytes_at;
 use console::object::ObjectDma;
 
 #[tactic(auto, unfolding(crate::specs::Object::object_bytes))]

@@ -4,7 +4,8 @@ ghost use Rattle.std.proofs.lemmas.List.Edits.{sets};
 ghost use Rattle.arithmetic.specs.Number.{byte_at};
 ghost use Rattle.codec.specs.Rest.{latency_of, register_bytes, bank_bytes, console_of};
 
-use crate::run::{bytes_at, place};
+use crate::run::place;
+use arithmetic::bytes::bytes_at;
 use console::{Cgb, CgbConsoleState, VramDmaClaim};
 
 // SVBK, KEY1, the speed switch and FF72 to FF75: bytes 41 to 55.

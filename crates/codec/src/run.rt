@@ -1,18 +1,7 @@
 // Runs of bytes.
 ghost use Rattle.std.specs.Prelude.{◌≡◌, ◌+◌, ◌≤◌, length, ◌&&◌};
 ghost use Rattle.std.proofs.lemmas.List.Edits.{sets};
-ghost use Rattle.arithmetic.specs.Number.{bytes_at, same_bytes, same_from};
-
-// `N` bytes from `k` on.
-#[tactic(auto, using(crate::proofs::Runs::between_bytes))]
-pub(crate) fn bytes_at<const N: usize>(b: &[u8; 248], k: usize) -> [u8; N]
-    requires { k + N ≤ 248 }
-    ensures { result ≡ bytes_at b.now k N }
-{
-    let mut part = [0; N];
-    part.copy_from_slice(&b[k..k + N]);
-    part
-}
+ghost use Rattle.arithmetic.specs.Number.{same_bytes, same_from};
 
 // `part` goes into `out` from `at` on.
 #[tactic(auto, using(crate::proofs::Runs::placed))]

@@ -1,7 +1,9 @@
 // The inputs of a call in its record of 16 bytes, numbers lowest byte first. Other bytes and bits are ignored.
+// A flag is a bit of byte 5, by quotient and rest as its definition says it: as `flags & 2 != 0` the proof did not close.
 ghost use Rattle.std.specs.Prelude.{◌≡◌};
 ghost use Rattle.record.specs.Input.{edge_of, address_of, elapsed_of, boundary_of, write_input_of, fall_input_of, switch_input_of, bus_input_of, arbitration_input_of, hold_input_of};
 
+use arithmetic::bytes::bytes_at;
 use bus::arbitration::ArbitrationInput;
 use bus::commit::BusInput;
 use bus::hold::HoldInput;
@@ -12,21 +14,19 @@ use speed_switch::switch::SwitchInput;
 pub fn edge(bytes: [u8; 16]) -> u64
     ensures { result ≡ edge_of bytes }
 {
-    u64::from_le_bytes([
-        bytes[8], bytes[9], bytes[10], bytes[11], bytes[12], bytes[13], bytes[14], bytes[15],
-    ])
+    u64::from_le_bytes(bytes_at(&bytes, 8))
 }
 
 pub fn address(bytes: [u8; 16]) -> u16
     ensures { result ≡ address_of bytes }
 {
-    u16::from_le_bytes([bytes[2], bytes[3]])
+    u16::from_le_bytes(bytes_at(&bytes, 2))
 }
 
 pub fn elapsed(bytes: [u8; 16]) -> u32
     ensures { result ≡ elapsed_of bytes }
 {
-    u32::from_le_bytes([bytes[8], bytes[9], bytes[10], bytes[11]])
+    u32::from_le_bytes(bytes_at(&bytes, 8))
 }
 
 pub fn write_input(bytes: [u8; 16]) -> WriteInput
