@@ -6,6 +6,7 @@ use mathlib.Core.Bool.{Bool, true, false, cond, not, ◌&&◌, false≢true}
 use mathlib.Core.Logic.{◌↔◌}
 use lib.Dec.{ltb}
 use borrow.Author.Tests.{ltb-true, ltb-false, lt-ltb, le-ltb}
+use Rattle.std.proofs.lemmas.Bool.{and_parts}
 use Rattle.countdown.specs.Countdown.{armed, cleared, active_of}
 use Rattle.console.specs.Set.{with_cursor_mode, with_cursor_escape_byte, with_block_remaining, with_block_ready_in, with_block_setup_cells}
 use Rattle.console.specs.Set.{with_arb_granted_ahead}
@@ -34,13 +35,9 @@ module _ (d : VramDma) where
       back k = rw (lt-ltb 0 d.block.remaining k.latched, le-ltb 0 d.block.ready_in.0 (omega (arith, k.ready)))
 
 -- a ready block has bytes
-first : (a b : Bool) → (a && b) ≡ true → a ≡ true
-first true b e = refl
-first false b e = absurd (false≢true e)
-
 latched : (d : VramDma) → ready_block d ≡ true → ltb 0 d.block.remaining ≡ true
 unfolding ready_block
-latched d e = first (ltb 0 d.block.remaining) (not (active_of d.block.ready_in)) e
+latched d e = (and_parts (ltb 0 d.block.remaining) (not (active_of d.block.ready_in)) e).0
 
 module _ (d : VramDma) (some : ltb 0 d.block.remaining ≡ true) where
   graded_cut : ready_block d ≡ true → graded_of d ≡ cut_of (ungranted d)

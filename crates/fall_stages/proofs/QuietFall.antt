@@ -4,6 +4,7 @@ use mathlib.Core.Path.{◌≡◌, refl, sym, ap, ◌∙◌}
 use mathlib.Core.Bool.{Bool, true, false, cond, not, ◌&&◌, ◌||◌, and-true, or-false, false≢true}
 use lib.Dec.{eqb}
 use borrow.Author.Tests.{eqb-true, ltb-false, not-true}
+use Rattle.std.proofs.lemmas.Bool.{and_parts}
 use Rattle.countdown.specs.Countdown.{cleared, active_of}
 use Rattle.countdown.specs.declared.Countdown.{Countdown}
 use Rattle.console.specs.Modes.{is_general, is_hblank}
@@ -98,28 +99,18 @@ ran mode hblank taken arm claim double i d e =
 rests : (c : Countdown) → not (active_of c) ≡ true → c ≡ cleared
 rests c e = let none = ltb-false 0 c.0 (not-true _ e) in let zero : c.0 ≡ 0 = omega arith in λ k. record { 0 = zero k }
 
-both : (a b : Bool) → (a && b) ≡ true → (a ≡ true) × (b ≡ true)
-both true b e = (refl, e)
-both false b e = absurd (false≢true e)
-
-first : (a b : Bool) → (a && b) ≡ true → a ≡ true
-first a b e = (both a b e).0
-
-second : (a b : Bool) → (a && b) ≡ true → b ≡ true
-second a b e = (both a b e).1
-
 four : (a b c d : Bool) → (a && b && c && d) ≡ true → (a ≡ true) × (b ≡ true) × (c ≡ true) × (d ≡ true)
 four a b c d e =
-    let e3 = both (a && b && c) d e in
-    let e2 = both (a && b) c e3.0 in
-    let e1 = both a b e2.0 in
+    let e3 = and_parts (a && b && c) d e in
+    let e2 = and_parts (a && b) c e3.0 in
+    let e1 = and_parts a b e2.0 in
     (e1.0, e1.1, e2.1, e3.1)
 
 pub at_rest : (d : VramDma) → still_of d ≡ true → AtRest d
 at_rest d e =
     let b = d.block in
     let a = d.arb in
-    let parts = both (still_block b) (still_arb a) e in
+    let parts = and_parts (still_block b) (still_arb a) e in
     let block =
     four (eqb b.remaining 0) (not (active_of b.setup_cells)) (not (active_of b.ready_in))
     (not b.arm_ready_probation) parts.0 in
@@ -215,12 +206,12 @@ shorter :
     (nothing ≡ true → rest ≡ true → halted ≡ false → ran false ≡ settled) →
     cond (none && rest && not halted && not stopped) settled (ran ((halted && not irq) || stopped)) ≡ settled
 shorter none nothing rest halted stopped irq settled ran e r =
-    let e3 = first ((none || nothing) && rest && not halted) (not stopped) e in
-    let e2 = first ((none || nothing) && rest) (not halted) e3 in
-    let still = second (none || nothing) rest e2 in
-    let runs = not-true halted (second ((none || nothing) && rest) (not halted) e3) in
-    let goes = not-true stopped (second ((none || nothing) && rest && not halted) (not stopped) e) in
-    rw (still, runs, goes) (either none nothing settled ran (first (none || nothing) rest e2) (λ n. r n still runs))
+    let e3 = and_parts ((none || nothing) && rest && not halted) (not stopped) e in
+    let e2 = and_parts ((none || nothing) && rest) (not halted) e3.0 in
+    let e1 = and_parts (none || nothing) rest e2.0 in
+    let runs = not-true halted e2.1 in
+    let goes = not-true stopped e3.1 in
+    rw (e1.1, runs, goes) (either none nothing settled ran e1.0 (λ n. r n e1.1 runs))
 
 pub quiet_fall : Quiet
 unfolding fall_of

@@ -17,7 +17,7 @@ use Rattle.console.specs.declared.vram_dma.VramDma.{VramDma}
 use Rattle.transfer.specs.Questions.{seizes_bus}
 use Rattle.fall_stages.specs.Fall.{observed_arb, observed_of, reverts, judged_block, ungranted_arb, probation_of, joins_halt}
 use Rattle.fall_stages.specs.Fall.{dropped_block, halt_latch_arb, halt_latch_of, refilled_of, aged_arb, pended_arb, halt_pends, grants}
-use Rattle.fall_stages.specs.Fall.{granted_arb, gated_of, blinds_arb, blinds_of, commit_block, commit_arb, commit_of, consumes, tenure_arb}
+use Rattle.fall_stages.specs.Fall.{granted_arb, gated_of, blinds_arb, blinds_of, commit_block, commit_arb, commit_of, tenure_arb}
 use Rattle.fall_stages.specs.Fall.{tenure_of, pends, pend_arb, pend_of, readied_block, readiness_of, seized_block, seizure_of}
 use Rattle.fall_stages.specs.StageSteps.{StageSteps}
 use Rattle.fall_stages.specs.declared.View.{View}

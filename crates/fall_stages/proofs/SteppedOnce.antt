@@ -4,6 +4,7 @@ use Prim.Native.Nat.{ℕ}
 use mathlib.Core.Path.{◌≡◌, refl, sym, ap, ◌∙◌}
 use mathlib.Core.Bool.{Bool, true, false, cond, not, ◌&&◌, ◌||◌, true≢false}
 use lib.Dec.{eqb}
+use Rattle.std.proofs.lemmas.Bool.{and_left}
 use Rattle.countdown.specs.Countdown.{armed, cleared, stepped}
 use Rattle.countdown.specs.declared.Countdown.{Countdown}
 use Rattle.console.specs.declared.VramDmaClaim.{VramDmaClaim}
@@ -192,16 +193,12 @@ rests true b n c e r = absurd (true≢false e)
 rests false true n c e r = sym r
 rests false false n c e r = sym r ∙ ap stepped r
 
-pub left_false : (a b : Bool) → a ≡ false → (a && b) ≡ false
-left_false false b e = refl
-left_false true b e = absurd (true≢false e)
-
 module _ (i : FallInput) (double : Bool) (d : VramDma) where
   rest3 : settles i d ≡ true → d.arb.halt_wake_blind ≡ stepped (at_step blind_of_3 i double d)
   rest3 p =
       let r = resting i double d p in
       rests (d.arb.prev_cpu_halted && not i.halted) false 3 d.arb.halt_wake_blind
-      (left_false d.arb.prev_cpu_halted (not i.halted) r.awake) (sym r.blind3)
+      (and_left d.arb.prev_cpu_halted (not i.halted) r.awake) (sym r.blind3)
 
   rest6 : settles i d ≡ true → d.arb.wake_pend_blind ≡ stepped (at_step blind_of_6 i double d)
   rest6 p = rests false false 6 d.arb.wake_pend_blind refl (sym (resting i double d p).blind6)
@@ -216,7 +213,7 @@ module _ (i : FallInput) (double : Bool) (d : VramDma) where
       d.block.ready_in ≡ stepped (at_step readiness i double d)
   rest2 p c =
       rests (readiness.arms i double d) (readiness.clears i double d) 2 d.block.ready_in
-      (left_false (fall_of i double d).claim.committed _ c) (sym (resting i double d p).ready)
+      (and_left (fall_of i double d).claim.committed _ c) (sym (resting i double d p).ready)
 
 along3 : Along blind_of_3
 unfolding settled_of view_of blinds_of blinds_arb

@@ -4,7 +4,7 @@ use native.Mathlib.Omega.{arith}
 use mathlib.Core.Path.{◌≡◌, refl, sym, ap, ◌∙◌}
 use mathlib.Core.Bool.{Bool, true, false, cond, not, ◌&&◌, ◌||◌, and-false, false≢true, true≢false}
 use lib.Dec.{leb, eqb}
-use borrow.Author.Tests.{lt-ltb, le-ltb, eqb-false, eqb-true, not-true}
+use borrow.Author.Tests.{lt-ltb, le-ltb, eqb-false}
 use Rattle.countdown.specs.Countdown.{armed, active_of}
 use Rattle.arithmetic.specs.SmallSteps.{saturating_inc}
 use Rattle.console.specs.Set.{with_cursor_quota}
@@ -14,7 +14,7 @@ use Rattle.console.specs.declared.vram_dma.VramDma.{VramDma}
 use Rattle.transfer.specs.Pair.{moving_of, quota_of}
 use Rattle.transfer.specs.Questions.{seizes_bus}
 use Rattle.transfer.proofs.PairSteps.{pair_steps}
-use Rattle.fall_stages.specs.Fall.{view_of, gates, still_of, inert_of, settled_of, observed_arb, observed_of, judged_block, ungranted_arb}
+use Rattle.fall_stages.specs.Fall.{view_of, gates, settled_of, observed_arb, observed_of, judged_block, ungranted_arb}
 use Rattle.fall_stages.specs.Fall.{probation_of, dropped_block, halt_latch_arb, halt_latch_of, refilled_of, aged_arb, pended_arb, granted_arb}
 use Rattle.fall_stages.specs.Fall.{gated_of, blinds_arb, blinds_of, commits, overflows, commit_block, commit_arb, commit_of, tenure_arb}
 use Rattle.fall_stages.specs.Fall.{tenure_of, pend_arb, pend_of, readied_block, readiness_of, seized_block, seizure_of, claim_of, started_of}

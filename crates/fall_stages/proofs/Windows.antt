@@ -5,6 +5,7 @@ use mathlib.Core.Path.{◌≡◌, refl, sym, ap, ◌∙◌}
 use mathlib.Core.Bool.{Bool, true, false, cond, not, ◌&&◌, ◌||◌, and-false, or-true, false≢true, true≢false}
 use lib.Dec.{ltb, eqb, lit<}
 use borrow.Author.Tests.{lt-ltb, le-ltb, eq-eqb, ne_eqb}
+use Rattle.std.proofs.lemmas.Bool.{and_left}
 use Rattle.countdown.specs.Countdown.{armed, cleared, active_of}
 use Rattle.countdown.specs.declared.Countdown.{Countdown}
 use Rattle.console.specs.Modes.{is_general, is_hblank}
@@ -20,7 +21,7 @@ use Rattle.fall_stages.specs.declared.FallInput.{FallInput}
 use Rattle.fall_stages.proofs.Once.{spent_none}
 use Rattle.fall_stages.proofs.Steps.{s, t, resting, fall_steps}
 use Rattle.fall_stages.proofs.OneLemma.{lasts, one_lemma}
-use Rattle.fall_stages.proofs.SteppedOnce.{blind3_steps, blind6_steps, committed, left_false, ready_steps, tenure_steps}
+use Rattle.fall_stages.proofs.SteppedOnce.{blind3_steps, blind6_steps, committed, ready_steps, tenure_steps}
 use Rattle.fall_stages.proofs.Entries.{entries}
 
 -- ---- an entry in a window is passed over
@@ -40,7 +41,7 @@ module _ (i : FallInput) (double : Bool) (d : VramDma) where
       outside (eqb i.mode 0 && not d.arb.prev_view_hblank) (active_of (at_step blind_of_3 i double d))
       (active_of (at_step blind_of_6 i double d)) (not (eqb (at_step blind_of_6 i double d).0 6)) (active_of (at_step tenure_of_36 i double d))
       (idle (d.arb.prev_cpu_halted && not i.halted) 3 d.arb.halt_wake_blind
-      (left_false d.arb.prev_cpu_halted (not i.halted) r.awake) (sym r.blind3))
+      (and_left d.arb.prev_cpu_halted (not i.halted) r.awake) (sym r.blind3))
       (idle false 6 d.arb.wake_pend_blind refl (sym r.blind6))
       (idle (tenure_of_36.arms i double d) 36 d.arb.wake_tenure (rw c) (sym r.tenure))
 

@@ -8,6 +8,7 @@ use native.Mathlib.Nat.{eq-zero-or-pos}
 use lib.Dec.{ltb, lit<}
 use borrow.Author.Tests.{lt-ltb, le-ltb, eq-eqb, ne_eqb}
 use Rattle.std.specs.Prelude.{Some, None}
+use Rattle.std.proofs.lemmas.Bool.{and_from, and_left}
 use Rattle.countdown.specs.Countdown.{active_of}
 use Rattle.console.specs.Modes.{is_general}
 use Rattle.console.specs.declared.vram_dma.VramDma.{VramDma}
@@ -80,14 +81,9 @@ one : (d : VramDma) → moving_of d ≡ true → Ready (with_quota 1 d)
 unfolding moving_of
 one d moving = record { quota = lit< tt; moving = moving }
 
-both : (a b : Bool) → a ≡ true → b ≡ true → (a && b) ≡ true
-both true true p q = refl
-both true false p q = q
-both false b p q = p
-
 pub drained : (d : VramDma) → d.cursor.escape_byte ≡ true → moving_of d ≡ true → drain_of d ≡ next_byte_of (with_quota 1 d)
 unfolding drain_of
-drained d owed moving = rw (both d.cursor.escape_byte (moving_of d) owed moving)
+drained d owed moving = rw (and_from d.cursor.escape_byte (moving_of d) owed moving)
 
 drains :
     (d : VramDma) → d.cursor.escape_byte ≡ true → moving_of d ≡ true →
@@ -98,13 +94,9 @@ drains d owed moving = rw (drained d owed moving, steps (with_quota 1 d) (one d 
 drain_moves : (d : VramDma) → d.cursor.escape_byte ≡ true → moving_of d ≡ true → Moved (with_quota 1 d) (drain_of d).dma
 drain_moves d owed moving = rw (drained d owed moving) (moves (with_quota 1 d) (one d moving))
 
-left_false : (a b : Bool) → a ≡ false → (a && b) ≡ false
-left_false false b p = refl
-left_false true b p = absurd (false≢true (sym p))
-
 none_owed : (d : VramDma) → d.cursor.escape_byte ≡ false → drain_of d ≡ record { answer = None; dma = d }
 unfolding drain_of
-none_owed d paid = rw (left_false d.cursor.escape_byte (moving_of d) paid)
+none_owed d paid = rw (and_left d.cursor.escape_byte (moving_of d) paid)
 
 owed_still : (d : VramDma) → moving_of d ≡ false → drain_of d ≡ record { answer = None; dma = d }
 unfolding drain_of
