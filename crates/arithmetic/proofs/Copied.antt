@@ -2,7 +2,7 @@
 use Rattle.std.proofs.Common.{◌≡◌, ℕ, zero, suc, ◌+◌, ◌-◌, ◌≤◌, List, ◌∷◌, length, get_or, take, drop, drop-cons, slice_range, refl, ap, arith}
 use Rattle.arithmetic.specs.Number.{bytes_at}
 
-copied : (b : List ℕ) (k n : ℕ) → k + n ≤ length b → take n (drop k b) ≡ bytes_at b k n
+pub copied : (b : List ℕ) (k n : ℕ) → k + n ≤ length b → take n (drop k b) ≡ bytes_at b k n
 copied b k zero h = refl
 copied b k (suc n) h = rw (drop-cons b k 0 (omega arith)) (ap (λ l. get_or b k 0 ∷ l) (copied b (suc k) n (omega arith)))
 

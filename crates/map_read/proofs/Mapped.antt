@@ -12,16 +12,6 @@ none : (mapped : Bool) (x : ℕ) → cond mapped (Some x) None ≡ None → mapp
 none false x e = refl
 none true x e = cc
 
-some : (mapped : Bool) (x b : ℕ) → cond mapped (Some x) None ≡ Some b → (mapped ≡ true) × (x ≡ b)
-some true x b e = (refl, cc)
-some false x b e = cc
-
 pub unmapped_read : (s : Cgb) (wram : List ℕ) (a : ℕ) → map_read_of s wram a ≡ None → readable (place_of a) ≡ false
 unfolding map_read_of
 unmapped_read s wram a e = none (readable (place_of a)) (map_byte s wram (place_of a)) e
-
-pub mapped_read :
-    (s : Cgb) (wram : List ℕ) (a b : ℕ) → map_read_of s wram a ≡ Some b →
-    (readable (place_of a) ≡ true) × (map_byte s wram (place_of a) ≡ b)
-unfolding map_read_of
-mapped_read s wram a b e = some (readable (place_of a)) (map_byte s wram (place_of a)) b e
