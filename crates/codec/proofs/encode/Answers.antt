@@ -1,4 +1,5 @@
--- The parts, stored one after another into zeros, stand one after another.
+-- The parts, stored one after another into zeros, stand one after another. With `laid` by `using` the search does not put the eight
+-- clauses together, nor with the eight stores written out in a lemma.
 use Rattle.codec.proofs.State.{sized, laid}
 use Rattle.codec.proofs.encode.Goals as goal
 

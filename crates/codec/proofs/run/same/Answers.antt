@@ -1,4 +1,4 @@
--- Each run hands the comparison on to the next, and nothing is left behind the last.
+-- Each run hands the comparison on to the next, and nothing is left behind the last. With `same_all` by `using` the search gives up.
 use Rattle.std.proofs.Common.{◌∙◌, arith}
 use Rattle.arithmetic.proofs.Same.{same_all}
 use Rattle.codec.proofs.run.same.Goals as goal

@@ -1,5 +1,5 @@
 -- Each bound is what the field's type says. Of a struct, `.1 .1` is the list of its fields; of a number, `.1` is its bound. The latency's is
--- that of the byte it is written as.
+-- that of the byte it is written as. The search by itself gives up at these bounds.
 use borrow.Author.Rules.{elem_Fits}
 use Rattle.std.proofs.Common.{◌≡◌, ℕ, ◌<◌, Option, Some, None, unwrap_or, w8, arith}
 use Rattle.codec.specs.Rest.{latency_value}
