@@ -78,6 +78,8 @@ impl Values for VramDmaStatus {
     }
 }
 
+// A function and no `From<Cause>`: that would have to stand beside `Cause`, in a crate that has no function, and its definition with it,
+// away from those of the other answers.
 pub fn cause_number(cause: Cause) -> u8
     ensures { result ≡ cause_number cause }
 {
