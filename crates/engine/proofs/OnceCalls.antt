@@ -1,7 +1,7 @@
 -- Running falls commit at most once in a mode-0 period, of the calls (specs, `OnceCalls`). Assumes nothing.
-use Prim.Native.Nat.{ℕ, ◌+◌, ◌≤◌}
+use Prim.Native.Nat.{ℕ, ◌≤◌}
 use native.Mathlib.Omega.{arith}
-use mathlib.Core.Path.{◌≡◌, sym, subst, ◌∙◌}
+use mathlib.Core.Path.{◌≡◌, subst}
 use mathlib.Core.Bool.{true}
 use lib.Dec.{eqb}
 use Rattle.std.proofs.Common.{Option, Some, None}
@@ -11,10 +11,10 @@ use Rattle.console.specs.Refusals.{kept}
 use Rattle.console.specs.declared.Cgb.{Cgb}
 use Rattle.console.specs.declared.refusal.Refusal.{Refusal}
 use Rattle.console.specs.declared.vram_dma.VramDma.{VramDma}
-use Rattle.transfer.specs.Keeps.{KeepsMarks}
 use Rattle.bus.proofs.BusSteps.{bus_steps}
-use Rattle.fall_stages.specs.Once.{Between, Period, over, fall, other}
+use Rattle.fall_stages.specs.Once.{Period, over, fall, other}
 use Rattle.fall_stages.proofs.Once as engine
+use Rattle.fall_stages.proofs.PendMarks.{keeps_between}
 use Rattle.fall_call.proofs.FallCallSteps.{fall_call_steps}
 use Rattle.bus_calls.specs.Bus.{arbitrated, arbitration_call_of}
 use Rattle.bus_calls.specs.BusCall.{bus_refusal, bus_state}
@@ -47,10 +47,6 @@ module _ (s t : Cgb) where
   either None between = between
   either (Some r) between = record { taken = λ e. e; pend = λ e. e }
 
--- what keeps the marks comes between
-of_marks : {d e : VramDma} → KeepsMarks d e → Between d e
-of_marks k = record { taken = λ h. k.taken ∙ h; pend = λ h. k.pend ∙ h }
-
 between : (s : Cgb) → BetweenFalls s
 unfolding next_pair_of escape_drain_of lcd_call_of retired_call_of bus_state arbitration_call_of cycle_state
 between s =
@@ -61,7 +57,7 @@ between s =
       drain = either s _ passes calls.drain;
       lcd_off = either s _ passes calls.lcd_off;
       retired = either s _ passes calls.retired;
-      bus_call = λ i n. either s _ (bus_refusal s n) (of_marks (bus_steps i s.vram_dma).marks);
+      bus_call = λ i n. either s _ (bus_refusal s n) (keeps_between (bus_steps i s.vram_dma).marks);
       arbitration = λ i. either s _ passes (calls.arbitration (arbitrated s i).oam);
       cycle = λ a n. either s _ (cycle_refusal s n) (record { taken = λ e. e; pend = λ e. e });
     }
