@@ -1,5 +1,5 @@
-// The board's log (document 02, A2): a record of 16 bytes for each record of a replay script. The engine's record of a step, and whether
-// a board's is the same; what a judge knows, its answer and its line. The steps that a program feeds in parts are log_parts'.
+// The board's log (document 02, A2): a record of 16 bytes for each record of a replay script. The engine's record of a step; what
+// a judge knows, its answer and its line. The steps that a program feeds in parts are log_parts'.
 #![tactic(auto)]
 
 pub mod judging;

@@ -1,6 +1,5 @@
-// One record of the log, and whether a board's is the same.
+// One record of the log.
 ghost use Rattle.std.specs.Prelude.{◌≡◌};
-ghost use Rattle.arithmetic.specs.Number.{same_bytes};
 ghost use Rattle.board_log.specs.LogRecord.{log_record};
 
 use replay_step::step::Line;
@@ -31,11 +30,4 @@ pub fn log_record(line: Line) -> [u8; 16]
         0,
         0,
     ]
-}
-
-// All 16 bytes count.
-pub fn same_record(a: [u8; 16], b: [u8; 16]) -> bool
-    ensures { result ≡ same_bytes a b }
-{
-    a == b
 }

@@ -1,5 +1,7 @@
 -- A step of the replay and a comparison are what the judge makes of a record. Assumes nothing.
-use Rattle.std.proofs.Common.{◌≡◌, ℕ, ◌+◌, ◌%◌, ◌^◌, Bool, true, false, not, ◌||◌, List, Option, ◌∙◌, add-one}
+use Rattle.std.proofs.Common.{◌≡◌, ℕ, ◌+◌, ◌%◌, ◌^◌, Bool, true, false, not, ◌&&◌, ◌||◌, List, [], ◌∷◌, Option, refl, ap, ◌∙◌, add-one}
+use lib.Dec.{eqb}
+use lib.Pointwise.{pointwise}
 use Rattle.arithmetic.specs.Number.{same_bytes}
 use Rattle.replay_step.specs.Record.{record_at_start}
 use Rattle.replay_step.specs.Step.{Steps}
@@ -11,9 +13,20 @@ use Rattle.board_log.specs.OwnLog.{record_step, point_after}
 use Rattle.board_log.specs.Judging.{Hearing, hearing_of, point, is_own, judged_record, judged_records}
 use Rattle.board_log.specs.declared.judging.Judge.{Judge}
 
+-- std's `==` of two arrays compares byte by byte
+by_bytes : (a b : List ℕ) → pointwise eqb a b ≡ same_bytes a b
+by_bytes [] [] = refl
+by_bytes [] (y ∷ ys) = refl
+by_bytes (x ∷ xs) [] = refl
+by_bytes (x ∷ xs) (y ∷ ys) = ap (λ (rest : Bool). eqb x y && rest) (by_bytes xs ys)
+
 module _
-    (j : Judge) (wram entry logged after : List ℕ) (e : Option Call) (t : Stepped) (same : Bool)
-    (read : e ≡ record_at_start entry) (performed : Steps j.state wram e t after) (compared : same ≡ same_bytes logged (log_record t.line)) where
+    (j : Judge) (wram entry logged after own : List ℕ) (e : Option Call) (t : Stepped) (same : Bool)
+    (read : e ≡ record_at_start entry) (performed : Steps j.state wram e t after) (owned : own ≡ log_record t.line)
+    (equal : same ≡ pointwise eqb logged own) where
+  compared : same ≡ same_bytes logged (log_record t.line)
+  compared = equal ∙ by_bytes logged own ∙ ap (λ (l : List ℕ). same_bytes logged l) owned
+
   pub differing :
       (j.differs || not same) ≡ true →
       hearing_of (record { state = t.state; agreed = j.agreed; differs = j.differs || not same }) after

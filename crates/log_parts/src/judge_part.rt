@@ -3,7 +3,7 @@ ghost use Rattle.std.specs.Prelude.{◌≡◌};
 ghost use Rattle.board_log.specs.Judging.{hearing_of, judged_record, Feeds};
 
 use board_log::judging::{Fed, Judge};
-use board_log::log_record::{log_record, same_record};
+use board_log::log_record::log_record;
 use board_log::records::whole_in_both;
 use replay_step::{read, step};
 
@@ -12,7 +12,8 @@ fn judge_record(j: Judge, script: &[u8; 16], log: &[u8; 16], wram: &mut [u8]) ->
     ensures { hearing_of result wram.new ≡ judged_record (hearing_of j wram.old) script.now log.now }
 {
     let stepped = step::perform(j.state, wram, read::record_of(script));
-    let same = same_record(*log, log_record(stepped.line));
+    // all 16 bytes count
+    let same = *log == log_record(stepped.line);
     let differs = j.differs | !same;
     Judge {
         state: stepped.state,
