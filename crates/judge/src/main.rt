@@ -34,16 +34,14 @@ fn opened(rt: &HostRuntime, argument: usize) -> Option<File> {
 // which such a file brought nothing, since then no whole record is left in both, and of a longer file some bytes wait.
 fn turn<R: Read>(
     judge: &mut Judge,
-    script_file: &mut R,
-    log_file: &mut R,
-    script: &mut Buffer<65536>,
-    log: &mut Buffer<65536>,
+    script: &mut Buffer<R, 65536>,
+    log: &mut Buffer<R, 65536>,
     wram: &mut [u8],
 ) -> io::Result<bool>
     ensures { Turns judge.old wram.old script.old log.old judge.new script.new log.new wram.new }
 {
-    let more_script = script.refill(script_file, 16);
-    let more_log = log.refill(log_file, 16);
+    let more_script = script.refill(16);
+    let more_log = log.refill(16);
     let fed = judge_part::feed(*judge, script.waiting(), log.waiting(), wram);
     *judge = fed.judge;
     script.take(fed.taken);
@@ -51,20 +49,13 @@ fn turn<R: Read>(
     Ok(more_script? & more_log?)
 }
 
-fn judged<R: Read>(script_file: &mut R, log_file: &mut R) -> io::Result<Verdict> {
-    let mut script = Buffer::new();
-    let mut log = Buffer::new();
+fn judged(script_file: File, log_file: File) -> io::Result<Verdict> {
+    let mut script = Buffer::new(script_file);
+    let mut log = Buffer::new(log_file);
     let mut wram = [0u8; 32768];
     let mut judge = judging::begin();
     for _ in 0..u64::MAX {
-        if !turn(
-            &mut judge,
-            script_file,
-            log_file,
-            &mut script,
-            &mut log,
-            &mut wram,
-        )? {
+        if !turn(&mut judge, &mut script, &mut log, &mut wram)? {
             break;
         }
     }
@@ -86,10 +77,10 @@ fn answer(rt: &HostRuntime) -> Verdict {
     if !has_two_arguments(rt) {
         return Verdict::Refused;
     }
-    let (Some(mut script), Some(mut log)) = (opened(rt, 1), opened(rt, 2)) else {
+    let (Some(script), Some(log)) = (opened(rt, 1), opened(rt, 2)) else {
         return Verdict::Refused;
     };
-    judged(&mut script, &mut log).unwrap_or(Verdict::Refused)
+    judged(script, log).unwrap_or(Verdict::Refused)
 }
 
 fn main(rt: HostRuntime) {

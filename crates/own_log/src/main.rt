@@ -22,21 +22,20 @@ enum Failure {
 
 // One read: the log of the records that are whole then is written, and the rest waits. Whether another may follow: not after the input's end.
 fn turn<R: Read, W: Write>(
-    input: &mut R,
+    script: &mut Buffer<R, 65536>,
     output: &mut W,
     state: &mut Cgb,
-    buf: &mut Buffer<65536>,
     out: &mut [u8],
     wram: &mut [u8],
 ) -> Result<bool, Failure>
     requires { length out.old ≡ 65536 }
-    ensures rest { length buf.new < 16 }
-    ensures logged { LogTurns state.old wram.old buf.old out.old state.new buf.new wram.new out.new }
+    ensures rest { length script.new < 16 }
+    ensures logged { LogTurns state.old wram.old script.old out.old state.new script.new wram.new out.new }
 {
-    let came = buf.read(input).map_err(|_| Failure::ScriptNotRead);
-    let logged = log_part::put_log(*state, buf.waiting(), out, wram);
+    let came = script.read().map_err(|_| Failure::ScriptNotRead);
+    let logged = log_part::put_log(*state, script.waiting(), out, wram);
     *state = logged.state;
-    buf.take(logged.taken);
+    script.take(logged.taken);
     output
         .write_all(&out[..logged.taken])
         .map_err(|_| Failure::LogNotWritten)?;
@@ -60,25 +59,17 @@ fn say_failure(rt: &impl Eprint, failure: Failure) {
 
 // The log of the whole input, and how many bytes of a short record stand at its end.
 fn log_input(rt: &HostRuntime) -> Result<usize, Failure> {
-    let mut input = rt.stdin();
+    let mut script = Buffer::new(rt.stdin());
     let mut output = rt.stdout();
-    let mut buf = Buffer::new();
     let mut out = [0u8; 65536];
     let mut wram = [0u8; 32768];
     let mut state = console::power_on::power_on(false);
     for _ in 0..u64::MAX {
-        if !turn(
-            &mut input,
-            &mut output,
-            &mut state,
-            &mut buf,
-            &mut out,
-            &mut wram,
-        )? {
+        if !turn(&mut script, &mut output, &mut state, &mut out, &mut wram)? {
             break;
         }
     }
-    Ok(buf.waiting().len())
+    Ok(script.waiting().len())
 }
 
 // Whether there is an argument behind the program's own name, which is number 0.

@@ -57,26 +57,24 @@ fn due(n: usize, more: bool) -> usize
 // One turn: what one read brings is performed, behind what waited, or at the end of the input what waited. Whether another may follow,
 // which is not so after the end of the input or of what can be written.
 fn turn<R: Read, W: Write>(
-    input: &mut R,
+    script: &mut Buffer<R, 65536>,
     output: &mut W,
     replay: &mut Replay,
-    buf: &mut Buffer<65536>,
     out: &mut [u8],
     wram: &mut [u8],
 ) -> bool
-    ensures rest { length buf.new < 16 }
+    ensures rest { length script.new < 16 }
 {
-    let more = matches!(buf.read(input), Ok(came) if came != 0);
-    let end = due(buf.waiting().len(), more);
-    let written = feed(output, replay, &buf.waiting()[..end], out, wram);
-    buf.take(end);
+    let more = matches!(script.read(), Ok(came) if came != 0);
+    let end = due(script.waiting().len(), more);
+    let written = feed(output, replay, &script.waiting()[..end], out, wram);
+    script.take(end);
     more & written
 }
 
 fn main(rt: HostRuntime) {
-    let mut input = rt.stdin();
+    let mut script = Buffer::new(rt.stdin());
     let mut output = rt.stdout();
-    let mut buf = Buffer::new();
     let mut out = [0u8; 65536];
     let mut wram = [0u8; 32768];
     let mut replay = Replay {
@@ -84,14 +82,7 @@ fn main(rt: HostRuntime) {
         number: 0,
     };
     for _ in 0..u64::MAX {
-        if !turn(
-            &mut input,
-            &mut output,
-            &mut replay,
-            &mut buf,
-            &mut out,
-            &mut wram,
-        ) {
+        if !turn(&mut script, &mut output, &mut replay, &mut out, &mut wram) {
             break;
         }
     }

@@ -1,5 +1,5 @@
 // A file read in parts through a buffer of fixed size: bytes that are not used yet wait in it, and a read brings more behind them. A file
-// is any reader of std: standard input too.
+// is any reader of std: standard input too. std's BufReader has its buffer on the heap.
 #![tactic(auto)]
 
 ghost use Rattle.std.specs.Prelude.{◌+◌, ◌-◌, ◌<◌, ◌≤◌, ◌≡◌, [], false, length, take, drop, IfOk, MatchResult};
@@ -8,15 +8,16 @@ use std::io;
 use std::io::Read;
 use std::marker::Model;
 
-// The bytes that wait stand from one place up to another. To a contract it is the list of them.
+// The file, and its bytes that wait, from one place up to another. To a contract it is the list of them.
 #[derive(Drop)]
-pub struct Buffer<const N: usize> {
+pub struct Buffer<R, const N: usize> {
+    input: R,
     bytes: [u8; N],
     from: usize,
     stop: usize,
 }
 
-impl<const N: usize> Model for Buffer<N> {
+impl<R, const N: usize> Model for Buffer<R, N> {
     ghost use Rattle.std.specs.Prelude.{ℕ, List, ◌-◌, ◌≤◌, take, drop};
 
     ghost Value = { List ℕ };
@@ -26,11 +27,12 @@ impl<const N: usize> Model for Buffer<N> {
     ghost invariant = { λ b. (b.from ≤ b.stop) × (b.stop ≤ N) };
 }
 
-impl<const N: usize> Buffer<N> {
-    pub fn new() -> Self
+impl<R: Read, const N: usize> Buffer<R, N> {
+    pub fn new(input: R) -> Self
         ensures { result ≡ [] }
     {
         Buffer {
+            input,
             bytes: [0; N],
             from: 0,
             stop: 0,
@@ -53,7 +55,7 @@ impl<const N: usize> Buffer<N> {
     }
 
     // One read, behind what waits; where there is no room, none. How many bytes came: with no room none, and none at the file's end.
-    pub fn read<R: Read>(&mut self, input: &mut R) -> io::Result<usize>
+    pub fn read(&mut self) -> io::Result<usize>
         ensures waiting_kept { take (length self.old) self.new ≡ self.old }
         ensures count { MatchResult result (λ n. length self.new ≡ length self.old + n) (λ _. self.new ≡ self.old) }
     {
@@ -64,20 +66,20 @@ impl<const N: usize> Buffer<N> {
         if waiting == N {
             return Ok(0);
         }
-        let came = input.read(&mut bytes[waiting..])?;
+        let came = self.input.read(&mut bytes[waiting..])?;
         self.stop += came;
         Ok(came)
     }
 
     // One read, where fewer than `enough` bytes wait. Whether there was no need of one, or it brought some.
-    pub fn refill<R: Read>(&mut self, input: &mut R, enough: usize) -> io::Result<bool>
+    pub fn refill(&mut self, enough: usize) -> io::Result<bool>
         ensures waiting_kept { take (length self.old) self.new ≡ self.old }
         ensures dry { IfOk result (λ more. more ≡ false → (length self.old < enough) × (self.new ≡ self.old)) }
     {
         if self.waiting().len() >= enough {
             return Ok(true);
         }
-        Ok(self.read(input)? != 0)
+        Ok(self.read()? != 0)
     }
 }
 
