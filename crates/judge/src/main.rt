@@ -9,12 +9,12 @@ use board_log::judging::Judge;
 use board_log::verdict::Verdict;
 use board_log::{judging, verdict};
 use log_parts::judge_part;
-use std::env::FillError;
 use std::fs::File;
 use std::io::{Read, Write};
 use std::rt::Env;
 use std::{fs, io};
 use stream::Buffer;
+use stream::argument::has_argument;
 use text::Text;
 
 // The file that an argument names, open for reading, if it can be.
@@ -65,11 +65,6 @@ fn judged(script_file: File, log_file: File) -> io::Result<Verdict> {
 // Whether there are two arguments, behind the program's own name, which is number 0.
 fn has_two_arguments(rt: &impl Env) -> bool {
     has_argument(rt, 2) && !has_argument(rt, 3)
-}
-
-fn has_argument(rt: &impl Env, argument: usize) -> bool {
-    let mut name = [0u8; 16];
-    !matches!(rt.arg(argument, &mut name), Err(FillError::NotPresent))
 }
 
 // A file that cannot be opened or read gets 22.

@@ -8,10 +8,9 @@ ghost use Rattle.own_log.specs.Turn.{LogTurns};
 
 use console::Cgb;
 use log_parts::log_part;
-use std::env::FillError;
 use std::io::{Read, Write};
-use std::rt::Env;
 use stream::Buffer;
+use stream::argument::has_argument;
 
 // What keeps the log from being that of the whole input, besides a short record at its end.
 #[derive(Clone, Copy)]
@@ -72,14 +71,8 @@ fn log_input(rt: &HostRuntime) -> Result<usize, Failure> {
     Ok(script.waiting().len())
 }
 
-// Whether there is an argument behind the program's own name, which is number 0.
-fn has_argument(rt: &impl Env) -> bool {
-    let mut name = [0u8; 16];
-    !matches!(rt.arg(1, &mut name), Err(FillError::NotPresent))
-}
-
 fn main(rt: HostRuntime) {
-    if has_argument(&rt) {
+    if has_argument(&rt, 1) {
         let _ = eprintln!(rt; "usage: own_log <SCRIPT >LOG");
         return;
     }

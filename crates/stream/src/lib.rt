@@ -2,6 +2,8 @@
 // is any reader of std: standard input too. std's BufReader has its buffer on the heap.
 #![tactic(auto)]
 
+pub mod argument;
+
 ghost use Rattle.std.specs.Prelude.{◌+◌, ◌-◌, ◌<◌, ◌≤◌, ◌≡◌, [], false, length, take, drop, IfOk, MatchResult};
 
 use std::io;
