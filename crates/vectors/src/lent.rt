@@ -3,7 +3,8 @@
 use crate::vector::Vector;
 use memory::{byte_at, put_at};
 
-// Each with a byte more than a call takes, so that a slice can be too long.
+// Each with a byte more than a call takes, so that a slice can be too long. Not one struct with the cases' `Memory`, whose lengths and methods
+// are others: by four const parameters, with a trait for the methods of each side, it would be longer than the two.
 #[derive(Drop)]
 pub struct Lent {
     pub cartridge: [u8; 40961],
@@ -13,12 +14,24 @@ pub struct Lent {
 }
 
 // The slices, by their numbers in a vector.
-#[derive(Clone, Copy)]
-enum Slice {
+#[derive(Clone, Copy, PartialEq)]
+pub enum Slice {
     Cartridge = 0,
     Wram = 1,
     Vram = 2,
     Oam = 3,
+}
+
+impl Slice {
+    // The slice of a byte that a call changed. The cartridge never is: its number says that there is none.
+    pub fn of_change(number: u8) -> Option<Self> {
+        match number {
+            1 => Some(Slice::Wram),
+            2 => Some(Slice::Vram),
+            3 => Some(Slice::Oam),
+            _ => None,
+        }
+    }
 }
 
 fn filled(slice: Slice, seed: u8, index: usize) -> u8 {
@@ -43,8 +56,8 @@ fn unchanged(memory: &[u8], slice: Slice, seed: u8) -> bool {
 fn as_named(memory: &mut [u8], slice: Slice, vector: &Vector) -> bool {
     let seed = vector.seed();
     let mut same = true;
-    for change in vector.changes {
-        if change.slice == slice as u8 {
+    for change in vector.changes.into_iter().flatten() {
+        if change.slice == slice {
             same &= byte_at(memory, change.index) == change.value;
             put_at(memory, change.index, filled(slice, seed, change.index));
         }
@@ -69,7 +82,7 @@ impl Lent {
         fill(&mut self.oam, Slice::Oam, seed);
     }
 
-    // The bytes that the vector names are taken back. Cartridge is never named: 0 is none.
+    // The bytes that the vector names are taken back.
     pub fn as_named(&mut self, vector: &Vector) -> bool {
         let read = unchanged(&self.cartridge, Slice::Cartridge, vector.seed());
         let written = as_named(&mut self.wram, Slice::Wram, vector);

@@ -36,7 +36,7 @@ impl Tally {
     }
 }
 
-// A number of turns that no input reaches: a loop has to end.
+// A number of turns that no input reaches: a loop has to end, and one over `forever` would need the handle Wait.
 fn replay_all(rt: &HostRuntime) -> Tally {
     let mut tally = Tally::default();
     let mut input = rt.stdin();

@@ -2,13 +2,13 @@
 // lent memory is compared with what the original left. differential/oracle/src/vector.rs says each place.
 ghost use Rattle.std.specs.Prelude.{◌<◌, ◌≤◌, ◌^◌};
 
-use crate::lent::Lent;
+use crate::lent::{Lent, Slice};
 use std::io::{self, Read};
 
-// A byte that a call changed: its slice, or 0 for none, its index and its value.
+// A byte that a call changed: its slice, its index and its value.
 #[derive(Clone, Copy)]
 pub struct Change {
-    pub slice: u8,
+    pub slice: Slice,
     pub index: usize,
     pub value: u8,
 }
@@ -20,7 +20,7 @@ pub struct Vector {
     before: [u8; 248],
     answer: [u8; 24],
     after: [u8; 248],
-    pub changes: [Change; 4],
+    pub changes: [Option<Change>; 4],
 }
 
 fn bytes<const N: usize>(input: &mut impl Read) -> io::Result<[u8; N]>
@@ -36,14 +36,15 @@ fn length(input: &mut impl Read) -> io::Result<u32> {
 }
 
 impl Change {
-    fn read(input: &mut impl Read) -> io::Result<Self> {
-        let [slice, low, high, value] = bytes::<4>(input)?;
+    // None where a vector names fewer bytes than it has places for.
+    fn read(input: &mut impl Read) -> io::Result<Option<Self>> {
+        let [number, low, high, value] = bytes::<4>(input)?;
         let index = usize::from(u16::from_le_bytes([low, high]));
-        Ok(Change {
+        Ok(Slice::of_change(number).map(|slice| Change {
             slice,
             index,
             value,
-        })
+        }))
     }
 }
 
