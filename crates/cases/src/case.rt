@@ -39,7 +39,8 @@ impl Case {
         self.at(outcome.state)
     }
 
-    // Whether every field is as in this other state: by the bytes, which the round trip shows to tell states apart.
+    // Whether every field is as in this other state: by the bytes, which the round trip shows to tell states apart. A derived `==` would have to
+    // stand at the state and each of its parts, for this alone.
     fn same(self, before: Cgb) -> bool {
         codec::encode(self.state) == codec::encode(before)
     }

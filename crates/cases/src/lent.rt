@@ -4,7 +4,8 @@ use memory::byte_at;
 use std::array;
 use std::rt::Stdout;
 
-// A cartridge whose bytes tell their addresses; WRAM, VRAM and OAM of zeros.
+// A cartridge whose bytes tell their addresses; WRAM, VRAM and OAM of zeros. Not one struct with the vectors' `Lent`, which has a byte more of
+// each and other methods: it would be longer than the two.
 #[derive(Drop)]
 pub struct Memory {
     pub cartridge: [u8; memory::CARTRIDGE],

@@ -11,7 +11,7 @@ pub fn line(out: Stdout, said: impl Display + Drop) {
     let _ = out.println(said);
 }
 
-// How a line says what a call gives.
+// How a line says what a call gives. Not Display: that of `()`, `bool`, a pair or the engine's types is not this crate's to write.
 pub trait Say {
     fn say<W: fmt::Write>(&self, f: &mut fmt::Formatter<W>) -> fmt::Result;
 }
