@@ -22,12 +22,13 @@ use Rattle.console.proofs.Reached as seven
 use Rattle.bus.specs.Commit.{after_answer, taken_of, pairs_of, holds_bus, setup_stands}
 use Rattle.bus.specs.declared.commit.BusInput.{BusInput}
 use Rattle.bus.proofs.Taken.{moving}
-use Rattle.transfer.specs.Pair.{moving_of, quota_of, left_after, cursor_after, advanced_of}
+use Rattle.transfer.specs.Pair.{moving_of, quota_of, left_after, advanced_of}
 use Rattle.transfer.specs.Questions.{status_in}
 use Rattle.transfer.specs.Questions as transfer
 use Rattle.transfer.specs.PairSteps.{Ready, Moved}
 use Rattle.transfer.specs.declared.VramDmaStatus.TheVariants as dma
 use Rattle.transfer.specs.declared.pair.NextByte.{NextByte}
+use Rattle.transfer.proofs.CauseSteps.{left_after_lem}
 use Rattle.transfer.proofs.PairSteps.{pair_steps, steps}
 use Rattle.fall_stages.proofs.Refills.{general_moves}
 use Rattle.engine.specs.Calls.{Lengths, bus_refusal, bus_pairs, asked, engine_status}
@@ -68,10 +69,6 @@ take_zero : (d : VramDma) → length (taken_of 0 d).pairs ≡ 0
 unfolding taken_of
 take_zero d = refl
 
-advanced_left : (d : VramDma) → (advanced_of d).cursor.remaining ≡ left_after d.cursor
-unfolding advanced_of cursor_after
-advanced_left d = refl
-
 ready : (d : VramDma) → d.cursor.mode ≡ mode.General → 0 < d.cursor.remaining → 0 < d.cursor.quota → Ready d
 ready d general some q = record { quota = q; moving = general_moves d general some }
 
@@ -91,10 +88,10 @@ two d general some q = take_some 1 d r ∙ by (eqb (left_after d.cursor) 0) refl
     v = subst (λ (x : NextByte). Moved d x.dma) (steps d r) (pair_steps.moves d r)
 
     by : (b : Bool) → eqb (left_after d.cursor) 0 ≡ b → suc (length (taken_of 1 (advanced_of d)).pairs) ≡ cond b 1 2
-    by true e = ap suc (take_none 1 (advanced_of d) (pair_steps.never (advanced_of d) (advanced_left d ∙ eqb-true _ _ e)))
+    by true e = ap suc (take_none 1 (advanced_of d) (pair_steps.never (advanced_of d) (left_after_lem d ∙ eqb-true _ _ e)))
     by false e =
         let ne = eqb-false (left_after d.cursor) 0 e in
-        let left = advanced_left d in
+        let left = left_after_lem d in
         let q1 : (advanced_of d).cursor.quota ≡ 1 = (let fell = v.quota in omega arith) in
         ap suc (one (advanced_of d) ((v.going (λ z. ne (sym left ∙ z))).0 ∙ general) (omega arith) q1)
 
