@@ -7,6 +7,7 @@ use mathlib.Core.List.{List, [], ◌∷◌, ◌++◌}
 use lib.Dec.{eqb}
 use borrow.Author.Tests.{eqb-true}
 use Rattle.std.proofs.Common.{Ok}
+use Rattle.std.proofs.lemmas.Bool.{and_parts}
 use Rattle.console.specs.PowerOn.{power_on_of, dma_at_rest}
 use Rattle.console.specs.declared.Cgb.{Cgb}
 use Rattle.memory.specs.Lengths.{wram_length}
@@ -40,7 +41,6 @@ use Rattle.engine.specs.Calls.{bus_refusal, bus_pairs, bus_answer, bus_state, bu
 use Rattle.engine.specs.Calls.{blackout_call_of}
 use Rattle.ledger.specs.Ledger.{empty, followed, after_pair, after_pairs, after_call}
 use Rattle.ledger.specs.Calls.{bus_call, step, ledger_input}
-use Rattle.ledger.proofs.Bools.{and_left, and_right}
 use Rattle.case_theorem.specs.Cases.{Progress, in_compat, without_compat, start, after_one, after_calls, vram_run, run, ff55_is, to, falls, held_beside}
 use Rattle.case_theorem.specs.Cases.{lengths, addresses, upward}
 use Rattle.case_theorem.specs.Cases.{k1, K1, two_falls, K2, K3, K4, K5, k6, K6, K7, k8, Lent, first_lands, second_lands, K8, K10, Cases}
@@ -57,11 +57,12 @@ is_same [] [] h = refl
 is_same [] (q ∷ qs) h = absurd (false≢true h)
 is_same (p ∷ ps) [] h = absurd (false≢true h)
 is_same (p ∷ ps) (q ∷ qs) h =
-    let rest = and_right (eqb p.0 q.0) (eqb p.1 q.1 && same ps qs) h in
-    let source = eqb-true p.0 q.0 (and_left (eqb p.0 q.0) (eqb p.1 q.1 && same ps qs) h) in
-    let dest = eqb-true p.1 q.1 (and_left (eqb p.1 q.1) (same ps qs) rest) in
+    let parts = and_parts (eqb p.0 q.0) (eqb p.1 q.1 && same ps qs) h in
+    let rest = and_parts (eqb p.1 q.1) (same ps qs) parts.1 in
+    let source = eqb-true p.0 q.0 parts.0 in
+    let dest = eqb-true p.1 q.1 rest.0 in
     ap (λ (x : ℕ × ℕ). x ∷ ps) (λ i. (source i, dest i))
-    ∙ ap (λ (xs : List (ℕ × ℕ)). q ∷ xs) (is_same ps qs (and_right (eqb p.1 q.1) (same ps qs) rest))
+    ∙ ap (λ (xs : List (ℕ × ℕ)). q ∷ xs) (is_same ps qs rest.1)
 
 -- a read of FF55 looks at no more of the work RAM than its length
 ff55_by :

@@ -1,4 +1,3 @@
-pub mod Bools
 pub mod Core
 pub mod AcceptedOrDeclined
 pub mod Keeps

@@ -8,6 +8,7 @@ use lib.Dec.{eqb, lit<}
 use lib.ListN.{length}
 use borrow.Author.Tests.{eqb-true}
 use Rattle.std.proofs.Common.{None, Ok}
+use Rattle.std.proofs.lemmas.Bool.{and_parts}
 use Rattle.console.specs.PowerOn.{power_on_of, dma_at_rest}
 use Rattle.console.specs.Reached.{unreached}
 use Rattle.console.specs.Refusals.{number_of}
@@ -26,7 +27,6 @@ use Rattle.ledger.specs.Calls.{Call, Outcome, bus_call, bus_call_inside, BusCall
 use Rattle.ledger.specs.Code.{Returned}
 use Rattle.ledger.specs.Demand3.{Event, History, then, RunsTo, at_power_on, called, Standing, running, enters, ledger_of}
 use Rattle.ledger.specs.Demand3.{accepted_fall, pairs_since_fall, NextPairs, Balanced, general_pairs, Demand3}
-use Rattle.ledger.proofs.Bools.{and_left, and_right}
 use Rattle.ledger.proofs.Core.{core_of, quota}
 use Rattle.ledger.proofs.AcceptedOrDeclined as answer
 use Rattle.ledger.proofs.PairsMatch.{Match}
@@ -128,7 +128,9 @@ fresh h f s (called {s = t} c o r returned) =
     (λ (x : Outcome). (accepts x.reply && is_fall (ledger_input c)) ≡ true →
     quota x.state ≡ quota_of (moving_of x.state.vram_dma) x.state.double_speed)
     (sym (returned_step returned))
-    (λ both. refilled t (ledger_of h) (pairs_since_fall h) (invariant r) c (and_right accepted is_fall_here both) (and_left accepted is_fall_here both))
+    (λ both.
+    let parts = and_parts accepted is_fall_here both in
+    refilled t (ledger_of h) (pairs_since_fall h) (invariant r) c parts.1 parts.0)
   where
     accepted : Bool
     accepted = accepts (step t c).reply
