@@ -35,8 +35,8 @@ pub struct View {
     pub oam_owns_bus: bool,
 }
 
-// A fall's outcome: refused where an uncounted commit would raise granted from 255; the claim has both
-// flags false where nothing committed.
+// A fall's outcome: refused where an uncounted commit would raise granted from 255; the claim has both flags false where nothing
+// committed. No Option: refused, it holds the engine given, and laws of every fall, refused ones too, speak of that engine.
 #[derive(Clone, Copy)]
 pub struct Fallen {
     pub refused: bool,

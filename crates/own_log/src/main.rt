@@ -69,6 +69,15 @@ fn log_input(rt: &HostRuntime) -> Result<usize, Failure> {
         }
     }
     Ok(script.waiting().len())
+<<<<<<< HEAD
+=======
+}
+
+// Whether there is an argument behind the program's own name, which is number 0.
+fn has_argument(rt: &impl Env) -> bool {
+    let mut name = [0u8; 16];
+    !matches!(rt.arg(1, &mut name), Err(FillError::NotPresent))
+>>>>>>> 3c6da2e (Let a buffer have the file that it reads)
 }
 
 fn main(rt: HostRuntime) {
