@@ -7,7 +7,7 @@ use mathlib.Core.List.{List}
 use mathlib.Core.Logic.{◌⊎◌, inl, inr, ⊎_elim}
 use native.Mathlib.Nat.{not-suc-le-zero}
 use native.Mathlib.Omega.{arith}
-use Rattle.text.proofs.Order.{below_or_not}
+use Rattle.std.proofs.lemmas.Bool.{cases_lt}
 use Rattle.arithmetic.specs.Number.{same_bytes}
 use Rattle.arithmetic.proofs.Same.{same_self, same_equal}
 use Rattle.board_log.specs.LogRecord.{log_record}
@@ -66,7 +66,7 @@ wraps k = omega arith
 -- up to k, and k too
 with_last : (P : ℕ → Type 0) (k : ℕ) → ((i : ℕ) → i < k → P i) → P k → (i : ℕ) → i < suc k → P i
 with_last P k before last i h =
-    ⊎_elim (λ (below : i < k). before i below) (λ (above : k ≤ i). let same : k ≡ i = omega arith in subst P same last) (below_or_not i k)
+    ⊎_elim (λ (below : i < k). before i below) (λ (above : k ≤ i). let same : k ≡ i = omega arith in subst P same last) (cases_lt i k)
 
 none_yet : (script log : List ℕ) → Found script log 0 hearing_begun
 unfolding hearing_begun begun

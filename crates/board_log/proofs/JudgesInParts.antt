@@ -8,7 +8,7 @@ use native.Mathlib.Omega.{arith}
 use lib.ListN.{length, drop, length-append, length-drop}
 use lib.Dec.{eqb}
 use borrow.Author.Tests.{eq-eqb, eqb-true}
-use Rattle.text.proofs.Order.{below_or_not}
+use Rattle.std.proofs.lemmas.Bool.{cases_lt}
 use Rattle.board_log.specs.Records.{nth_record, whole_in_both}
 use Rattle.board_log.specs.OwnLog.{wram_at_start, log_of}
 use Rattle.board_log.specs.Judging.{Hearing, hearing_of, begun, hearing_begun, judged_records, Feeds}
@@ -83,8 +83,8 @@ module _ (script log : List ℕ) (k : ℕ) (whole : length script ≡ k * 16) (w
       ⊎_elim
       (λ (less : n < m). absurd (f.wrong (theirs n (omega (arith, less, inside)) (own n less))))
       (λ (more : m ≤ n). omega (arith, above, more))
-      (below_or_not n m))
-      (below_or_not m n)
+      (cases_lt n m))
+      (cases_lt m n)
 
   wrong_judges :
       (first agreed : ℕ) → first < k → agreed ≡ first % 2 ^ 64 → ((i : ℕ) → i < first → Own script log i) → (Own script log first → ⊥) →
@@ -226,7 +226,7 @@ short_rest script log n e =
     inl (omega (arith, less, e, length-drop n script, length-append (drop n script) [])))
     (λ (more : length log / 16 ≤ length script / 16).
     inr (omega (arith, more, e, length-drop n log, length-append (drop n log) [])))
-    (below_or_not (length script / 16) (length log / 16))
+    (cases_lt (length script / 16) (length log / 16))
 
 at_once_lem :
     (script log : List ℕ) (r : Fed) (wram_after : List ℕ) → Feeds begun wram_at_start script log r wram_after →

@@ -7,7 +7,7 @@ use native.Mathlib.Nat.{not-suc-le-zero}
 use native.Mathlib.Omega.{arith}
 use lib.ListN.{length, take, drop, length-append, length-drop}
 use lib.Seq.{take_all, take-add, take-append-le, drop-append-le, drop_at}
-use Rattle.text.proofs.Order.{below_or_not}
+use Rattle.std.proofs.lemmas.Bool.{cases_lt}
 use Rattle.board_log.specs.Records.{nth_record}
 use Rattle.board_log.specs.OwnLog.{ReplayPoint, record_step, point_at, at_power_on, own_record, own_records, log_of}
 use Rattle.board_log.proofs.LogRecord.{layout}
@@ -42,7 +42,7 @@ nth_own s script (suc n) i h =
     let same : n ≡ i = omega arith in
     subst (λ (m : ℕ). nth_record (own_records s script (suc n)) m ≡ own_record s script m) same
     (nth_last (own_records s script n) (own_record s script n) n front (own_length s script n)))
-    (below_or_not i n)
+    (cases_lt i n)
 
 pub log_length : (script : List ℕ) → length (log_of script) ≡ length script / 16 * 16
 unfolding log_of

@@ -6,7 +6,8 @@ ghost use Rattle.board_log.specs.Verdict.{verdict_of, verdict_text};
 use crate::judging::Judge;
 use text::Text;
 
-// Every record is the engine's; the number from 0 of the first that is not; or 22.
+// Every record is the engine's; the number from 0 of the first that is not; or 22. No Result: 22 is an answer of the program, which prints it as
+// the others, and no call's refusal.
 #[derive(Clone, Copy)]
 pub enum Verdict {
     Yes,
@@ -28,7 +29,7 @@ pub fn conclude(j: Judge, script_left: usize, log_left: usize) -> Verdict
     Verdict::Yes
 }
 
-// Not as Display, whose fmt would say nothing of the characters.
+// Not as Display: std promises what `write!` writes only where it answers Ok, and no contract says that it does.
 #[tactic(auto, unfolding(crate::specs::Verdict::verdict_text))]
 pub fn push_verdict(text: &mut Text, verdict: Verdict)
     ensures { Pushed text.old (verdict_text verdict) text.new }

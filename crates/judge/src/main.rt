@@ -54,6 +54,7 @@ fn judged(script_file: File, log_file: File) -> io::Result<Verdict> {
     let mut log = Buffer::new(log_file);
     let mut wram = [0u8; 32768];
     let mut judge = judging::begin();
+    // to the end of the input: a loop has to end, and one over `forever` would need the handle Wait
     for _ in 0..u64::MAX {
         if !turn(&mut judge, &mut script, &mut log, &mut wram)? {
             break;

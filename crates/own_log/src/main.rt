@@ -48,6 +48,7 @@ fn say_short(rt: &impl Eprint, bytes: usize) {
     );
 }
 
+// Not Display of `Failure`, an impl for the one line that is printed here.
 fn say_failure(rt: &impl Eprint, failure: Failure) {
     let line = match failure {
         Failure::ScriptNotRead => "script could not be read",
@@ -63,21 +64,13 @@ fn log_input(rt: &HostRuntime) -> Result<usize, Failure> {
     let mut out = [0u8; 65536];
     let mut wram = [0u8; 32768];
     let mut state = console::power_on::power_on(false);
+    // to the end of the input: a loop has to end, and one over `forever` would need the handle Wait
     for _ in 0..u64::MAX {
         if !turn(&mut script, &mut output, &mut state, &mut out, &mut wram)? {
             break;
         }
     }
     Ok(script.waiting().len())
-<<<<<<< HEAD
-=======
-}
-
-// Whether there is an argument behind the program's own name, which is number 0.
-fn has_argument(rt: &impl Env) -> bool {
-    let mut name = [0u8; 16];
-    !matches!(rt.arg(1, &mut name), Err(FillError::NotPresent))
->>>>>>> 3c6da2e (Let a buffer have the file that it reads)
 }
 
 fn main(rt: HostRuntime) {

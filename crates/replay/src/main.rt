@@ -81,6 +81,7 @@ fn main(rt: HostRuntime) {
         state: engine::power_on(false),
         number: 0,
     };
+    // to the end of the input: a loop has to end, and one over `forever` would need the handle Wait
     for _ in 0..u64::MAX {
         if !turn(&mut script, &mut output, &mut replay, &mut out, &mut wram) {
             break;

@@ -5,7 +5,7 @@ use mathlib.Core.Bool.{cond}
 use mathlib.Core.List.{List, [], ◌∷◌, ◌++◌, append_assoc}
 use mathlib.Core.Logic.{⊎_elim}
 use native.Mathlib.Omega.{arith}
-use Rattle.text.proofs.Order.{below_or_not}
+use Rattle.std.proofs.lemmas.Bool.{cases_lt}
 use borrow.Author.Tests.{lt-ltb, le-ltb}
 use lib.Dec.{ltb}
 use Rattle.text.specs.Text.{digit, decimal_within, decimal, four_digits, Decimals}
@@ -19,7 +19,7 @@ same_step f g n rest p q =
     ⊎_elim
     (λ (small : n < 10). rw (lt-ltb n 10 small))
     (λ (large : 10 ≤ n). ap (λ (ds : List ℕ). cond (ltb n 10) [] ds ++ digit n ∷ []) (rest (omega arith) (omega arith)))
-    (below_or_not n 10)
+    (cases_lt n 10)
 
 -- any two bounds that are large enough
 same : (f g n : ℕ) → Same f g n

@@ -1,3 +1,2 @@
-pub mod Order
 pub mod Stored
 pub mod Digits

@@ -4,7 +4,7 @@ use mathlib.Core.Path.{◌≡◌, refl, sym, subst, ◌∙◌}
 use mathlib.Core.List.{List, [], ◌∷◌, ◌++◌}
 use mathlib.Core.Logic.{⊎_elim}
 use native.Mathlib.Omega.{arith}
-use Rattle.text.proofs.Order.{below_or_not}
+use Rattle.std.proofs.lemmas.Bool.{cases_lt}
 use lib.ListN.{length, set, length-append, length-set}
 use lib.Seq.{sets, set_out, length-sets, sets-eq}
 use Rattle.text.specs.Text.{past, Pushed, Fitting}
@@ -38,7 +38,7 @@ join_outside l at x xs ys h =
     rw (past_end (length l) at (suc (length xs)) h, sets_out l at (x ∷ xs) h, sets_out l at ys h) (sym (sets_out l at (x ∷ (xs ++ ys)) h))
 
 join_step : (l : List ℕ) (at x : ℕ) (xs ys : List ℕ) → Joined (set l at x) (suc at) xs ys → Joined l at (x ∷ xs) ys
-join_step l at x xs ys rest = ⊎_elim (λ h. join_inside l at x xs ys h rest) (λ h. join_outside l at x xs ys h) (below_or_not at (length l))
+join_step l at x xs ys rest = ⊎_elim (λ h. join_inside l at x xs ys h rest) (λ h. join_outside l at x xs ys h) (cases_lt at (length l))
 
 joined : (l : List ℕ) (at : ℕ) (xs ys : List ℕ) → Joined l at xs ys
 joined l at [] ys = rw (past_none (length l) at)

@@ -1,11 +1,12 @@
 // Text in a lent buffer: a character, characters, a decimal number, a byte in two capitals. What no longer fits is left out, so that
-// no method asks anything of its caller.
+// no method asks anything of its caller. The digits are made here: of `write!` to a lent slice std's contract says nothing of the bytes, and
+// to a writer of ours only where it answers Ok, which no contract says that it does.
 #![tactic(auto)]
 
 ghost use Rattle.std.specs.Prelude.{◌<◌, ◌≡◌, [], ◌∷◌, take};
 ghost use Rattle.text.specs.Text.{digit, capital, decimal, field, four_digits, hex_byte, Pushed};
 
-// The buffer, and the place past the text in it.
+// The buffer, and the place past the text in it. No Vec: there is no heap.
 #[derive(Drop)]
 pub struct Text<'a> {
     pub out: &'a mut [u8],
@@ -120,6 +121,7 @@ impl Text<'_> {
     }
 
     // A number that mostly has one digit: so short that the compiler lays it into its callers.
+    #[tactic(auto, using(crate::proofs::Digits::one_digit))]
     pub fn push_small(&mut self, n: u64)
         ensures { Pushed self.old (decimal n) self.new }
     {
