@@ -1,15 +1,10 @@
 -- A turn shows what waited and what came, and keeps what was not taken (specs, `Turns`). Assumes nothing.
-use Rattle.std.proofs.Common.{◌≡◌, ℕ, List, ◌++◌, length, take, drop, sym, refl, ap, ◌∙◌}
-use lib.ListN.{take-append-drop}
+use Rattle.std.proofs.Common.{◌≡◌, ℕ, List, length, take, drop, refl}
+use Rattle.stream.proofs.Waits.{waited_first}
 use Rattle.board_log.specs.Judging.{Feeds}
 use Rattle.board_log.specs.declared.judging.Judge.{Judge}
 use Rattle.board_log.specs.declared.judging.Fed.{Fed}
 use Rattle.judge.specs.Turn.{Turns}
-
--- what waited comes first
-waited_first : (waited waits : List ℕ) → take (length waited) waits ≡ waited → waited ++ drop (length waited) waits ≡ waits
-waited_first waited waits kept =
-    ap (λ (l : List ℕ). l ++ drop (length waited) waits) (sym kept) ∙ take-append-drop (length waited) waits
 
 pub turned :
     {j : Judge} {wram waited waited_log waits waits_log shown shown_log left left_log : List ℕ} {fed : Fed} {wram_after : List ℕ} →

@@ -1,6 +1,6 @@
 -- Of what waits all whole records are taken, and the rest waits. Assumes nothing.
-use Rattle.std.proofs.Common.{◌≡◌, ℕ, ◌≤◌, ◌<◌, List, ◌++◌, length, take, drop, sym, refl, ap, ◌∙◌, arith, length-drop}
-use lib.ListN.{take-append-drop}
+use Rattle.std.proofs.Common.{◌≡◌, ℕ, ◌≤◌, ◌<◌, List, length, take, drop, refl, arith, length-drop}
+use Rattle.stream.proofs.Waits.{waited_first}
 use Rattle.console.specs.declared.Cgb.{Cgb}
 use Rattle.board_log.specs.OwnLog.{Logs}
 use Rattle.board_log.specs.Records.{whole_in_both}
@@ -19,11 +19,6 @@ pub less_than_a_record :
 unfolding whole_in_both
 less_than_a_record {state} {wram} {shown} {waits} {left} {out} {r} whole logs rest room =
     rw (rest, ← whole) (omega (arith, logs.taken, length-drop r.taken shown))
-
--- what waited comes first
-waited_first : (waited waits : List ℕ) → take (length waited) waits ≡ waited → waited ++ drop (length waited) waits ≡ waits
-waited_first waited waits kept =
-    ap (λ (l : List ℕ). l ++ drop (length waited) waits) (sym kept) ∙ take-append-drop (length waited) waits
 
 pub turned :
     {state : Cgb} {wram waited waits shown left out : List ℕ} {logged : Logged} {wram_after out_after : List ℕ} →
