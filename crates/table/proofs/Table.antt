@@ -3,7 +3,8 @@
 use Prim.Native.Nat.{ℕ, ◌<◌, ◌≤◌}
 use native.Mathlib.Omega.{arith}
 use mathlib.Core.Path.{◌≡◌, refl}
-use mathlib.Core.Bool.{Bool, true, false, cond, ◌&&◌, false≢true}
+use mathlib.Core.Bool.{Bool, true, false, cond}
+use Rattle.std.proofs.lemmas.Bool.{and_parts}
 use mathlib.Core.List.{List, [], ◌∷◌}
 use lib.Dec.{eqb, leb}
 use borrow.Author.Tests.{eqb-true, ne_eqb, leb-true}
@@ -57,16 +58,12 @@ module _ {A : Type 0} (default : A) (a : ℕ) where
   pub miss : (t : List (Entry A)) → NoneOf a (keys t) → look t default a ≡ default
   miss t n = miss_after t (Unit {0}) n
 
-both : (a b : Bool) → (a && b) ≡ true → (a ≡ true) × (b ≡ true)
-both true b e = (refl, e)
-both false b e = absurd (false≢true e)
-
 -- a number below every key is none of them
 pub each_under : {A : Type 0} (P : A → Type 0) (low a : ℕ) (t : List (Entry A)) → from low t ≡ true → a < low → Each P a t
 each_under P low a [] h p = tt
 each_under P low a (e ∷ es) h p =
-    let k : low ≤ e.key = leb-true low e.key (both (leb low e.key) (from low es) h).0 in
-    (λ here. absurd (omega (arith, here)), each_under P low a es (both (leb low e.key) (from low es) h).1 p)
+    let k : low ≤ e.key = leb-true low e.key (and_parts (leb low e.key) (from low es) h).0 in
+    (λ here. absurd (omega (arith, here)), each_under P low a es (and_parts (leb low e.key) (from low es) h).1 p)
 
 -- what every entry and the default pass, whatever is looked up passes
 pub passes :
@@ -74,5 +71,5 @@ pub passes :
     every test t ≡ true → test default ≡ true → test (look t default a) ≡ true
 passes test a [] default h d = d
 passes test a (e ∷ es) default h d =
-    let two = both (test e.value) (every test es) h in
+    let two = and_parts (test e.value) (every test es) h in
     choice (λ x. test x ≡ true) a e.key e.value (look es default a) (λ here. two.0) (passes test a es default two.1 d)
