@@ -18,7 +18,8 @@ pub fn write_address(c: TransferCursor) -> u16
     0x8000 + c.dest % 0x2000
 }
 
-// What is left after a pair: an owed escape is taken instead, and a carry ends the transfer.
+// What is left after a pair: an owed escape is taken instead, and a carry ends the transfer. The flag is a value of the paper's rule, and no
+// step to run.
 fn left_after(c: TransferCursor, carried: bool) -> u16
     ensures { result ≡ left_if carried c }
 {
@@ -54,7 +55,7 @@ fn block_after(b: HblankBlock) -> HblankBlock
     }
 }
 
-// last: the pair is the block's last one; ended: nothing is left.
+// last: the pair is the block's last one; ended: nothing is left. Values of the paper's rule, and no steps to run.
 #[tactic(auto, unfolding(transfer::specs::Pair::arb_after))]
 fn arb_after(a: HaltArbiter, last: bool, ended: bool) -> HaltArbiter
     ensures { result ≡ arb_after last ended a }

@@ -7,7 +7,8 @@ ghost use Rattle.std.specs.Prelude.{◌≡◌};
 
 use engine::{BusInput, Cgb, FallInput};
 
-// A step's byte: mode in bits 0 and 1, halted, IRQ latched, stopped, a bus owned by OAM DMA.
+// A step's byte: mode in bits 0 and 1, halted, IRQ latched, stopped, a bus owned by OAM DMA. One byte a step, as C hands it, and by
+// quotients, as record reads its flags.
 fn fall_input(step: u8, edge: u64) -> FallInput
     ensures { result ≡ step_fall step edge }
 {
@@ -31,7 +32,7 @@ fn bus_input() -> BusInput
     }
 }
 
-// A bus call that holds the bus.
+// A bus call that holds the bus. The slices come one by one, as C hands them.
 fn bus(state: Cgb, cartridge: &[u8], wram: &[u8], vram: &mut [u8], oam: &mut [u8]) -> Cgb
     ensures { Held state cartridge.now wram.now vram.old oam.old
         result vram.new oam.new }

@@ -35,7 +35,7 @@ pub fn blackout_divider_active(double_speed: bool, blackout: u32) -> bool
     blackout > relock_edges(double_speed)
 }
 
-// A blackout that has run out forgets the wake in flight.
+// A blackout that has run out forgets the wake in flight. The flag is a value of the rule, and no step to run.
 fn latency_after_drain(ended: bool, latency: Option<u8>) -> Option<u8>
     ensures { result ≡ latency_after_drain ended latency }
 {

@@ -4,7 +4,7 @@ ghost use Rattle.board_log.specs.LogRecord.{log_record};
 
 use replay_step::step::Line;
 
-// The engine's record of a step.
+// The engine's record of a step. One literal in the layout's order, as the definition is one list.
 #[tactic(auto, unfolding(crate::specs::LogRecord::log_record))]
 pub fn log_record(line: Line) -> [u8; 16]
     ensures { result ≡ log_record line }

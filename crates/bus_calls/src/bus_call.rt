@@ -9,6 +9,7 @@ use console::Cgb;
 use console::refusal::Refusal;
 use transfer::pair::Cause;
 
+// Of this call's answer, as the M-cycle call has one of its own: the two have other places beside the state.
 fn refused(state: Cgb, refusal: Refusal) -> BusOutcome
     ensures { result ≡ refused_bus refusal state }
 {

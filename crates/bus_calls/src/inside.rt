@@ -34,6 +34,7 @@ pub fn vram_dma_arbitrate_inside(state: Cgb, input: HoldInput) -> Outcome<Arbitr
     reached(state, arbitrated.answer, Cgb { vram_dma, ..state })
 }
 
+// The slices come one by one, as in the other form.
 pub fn vram_dma_commit_bytes_inside(
     state: Cgb,
     input: HoldInput,

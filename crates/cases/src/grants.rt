@@ -24,6 +24,7 @@ struct Refused {
     after: Case,
 }
 
+// A loop has to end: so many rounds no case reaches.
 fn first_refusal(start: Case) -> Option<Refused> {
     let mut case = start;
     for round in 1..1000 {

@@ -45,7 +45,7 @@ impl Run {
         }
     }
 
-    // Goes on until so many pairs came, with a number of turns that no case reaches.
+    // Goes on until so many pairs came. A loop has to end: so many turns no case reaches.
     pub fn until(self, wanted: u8) -> Self {
         let mut run = self;
         for _ in 0..200 {

@@ -54,7 +54,7 @@ impl Countdown {
         }
     }
 
-    // One tick while active. The flag: this step drained it to zero.
+    // One tick while active. The flag: this step drained it to zero. Beside `tick` as the paper has both, each with its own flag.
     pub fn expired(mut self) -> Ticked
         ensures { result ≡ expired_of self }
     {

@@ -62,7 +62,7 @@ pub fn will_move(d: VramDma) -> bool
     !d.block.setup_cells.active() & (d.cursor.quota > 0) & next_pair::moving(d)
 }
 
-// Double speed only, and once the seizure has settled for one fall.
+// Double speed only, and once the seizure has settled for one fall. The speed comes beside the engine: it is the console's.
 #[tactic(auto, unfolding(transfer::specs::Conflict::conflicts))]
 fn conflicts(d: VramDma, double_speed: bool, address: u16) -> bool
     ensures { result ≡ conflicts double_speed address d }

@@ -1,5 +1,5 @@
 // The fall (vram_dma.rs, `vram_dma_fall_edge`). The state is built at one place, so that the console around the engine is made
-// anew once for every outcome.
+// anew once for every outcome: with a `match` of two returns, or through `decided`, a fall takes longer (docs/PERFORMANCE.md).
 #![tactic(auto)]
 
 ghost use Rattle.std.specs.Prelude.{◌≡◌};

@@ -69,6 +69,7 @@ fn run(d: VramDma, v: View, gated: bool) -> Fallen
     }
 }
 
+// The speed comes beside the engine: it is the console's.
 #[tactic(auto, using(fall_stages::proofs::QuietFall::quiet_fall, fall_stages::proofs::QuietFall::loud_fall))]
 pub fn fall_edge(d: VramDma, double_speed: bool, input: FallInput) -> Fallen
     ensures { result ≡ fall_of input double_speed d }

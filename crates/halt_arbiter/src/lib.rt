@@ -1,12 +1,13 @@
-// The arbiter's part of each stage. A bool that says whether a step runs (`back`, `joins`, `pends`, `grants`, `committing`) is no
-// closure: each step is a definition of the paper over its flag, with one equation for both cases, and the stage decides once, for the
-// block too; a closure would hide the decision from the contract. `pend_if`, `grant_if` and `tenure_if` are no twins: each is its own
-// step, of other fields.
+// The arbiter's part of each stage. A bool that says whether a step runs (`back`, `joins`, `halted`, `arms`, `pends`, `grants`,
+// `committing`) is no closure: each step is a definition of the paper over its flag, with one equation for both cases, and the stage
+// decides once, for the block too; a closure would hide the decision from the contract. `pend_if` and `grant_if` are no twins: each is
+// its own step, of other fields.
 #![tactic(auto)]
 
-ghost use Rattle.std.specs.Prelude.{◌≡◌, ◌&&◌};
-ghost use Rattle.fall_stages.specs.Fall.{still_arb, settled_arb, halted_falls_of, wake_blind_of, observed_arb, ungranted_arb, halt_latch_arb};
-ghost use Rattle.fall_stages.specs.Fall.{aged_arb, pended_arb, grants, granted_arb, blinded, blinds_arb, drives, tenure_if, commit_arb};
+ghost use Rattle.std.specs.Prelude.{◌≡◌, ◌&&◌, cond};
+ghost use Rattle.countdown.specs.Countdown.{armed};
+ghost use Rattle.fall_stages.specs.Fall.{still_arb, settled_arb, halted_falls_of, observed_arb, ungranted_arb, halt_latch_arb};
+ghost use Rattle.fall_stages.specs.Fall.{aged_arb, pended_arb, grants, granted_arb, blinded, blinds_arb, drives, commit_arb};
 ghost use Rattle.fall_stages.specs.Fall.{consumes, tenure_arb, pend_arb};
 
 use arithmetic::pick::pick;
@@ -50,11 +51,10 @@ fn halted_falls(halted: bool, n: u8) -> u8
     pick(halted, n.saturating_add(1), 0)
 }
 
-// A wake blinds the entries of the next falls.
-fn wake_blind(woke: bool, blind: Countdown) -> Countdown
-    ensures { result ≡ wake_blind_of woke blind }
+fn armed_if(arms: bool, countdown: Countdown, falls: u8) -> Countdown
+    ensures { result ≡ cond arms (armed falls) countdown }
 {
-    pick(woke, blind.arm(3), blind)
+    pick(arms, countdown.arm(falls), countdown)
 }
 
 #[tactic(auto, unfolding(fall_stages::specs::Fall::observed_arb))]
@@ -64,7 +64,8 @@ pub fn observe(a: HaltArbiter, v: View) -> HaltArbiter
     HaltArbiter {
         halted_falls: halted_falls(v.cpu_halted, a.halted_falls),
         prev_view_hblank: v.in_hblank,
-        halt_wake_blind: wake_blind(v.was_halted & !v.cpu_halted, a.halt_wake_blind),
+        // a wake blinds the entries of the next falls
+        halt_wake_blind: armed_if(v.was_halted & !v.cpu_halted, a.halt_wake_blind, 3),
         ..a
     }
 }
@@ -182,12 +183,6 @@ fn drives(a: HaltArbiter, v: View) -> bool
     a.pend_granted & !v.in_hblank
 }
 
-fn tenure_if(driven: bool, tenure: Countdown) -> Countdown
-    ensures { result ≡ tenure_if driven tenure }
-{
-    pick(driven, tenure.arm(36), tenure)
-}
-
 #[tactic(auto, unfolding(fall_stages::specs::Fall::commit_arb))]
 pub fn commit(a: HaltArbiter, v: View, committing: bool) -> HaltArbiter
     ensures { result ≡ commit_arb committing v a }
@@ -195,7 +190,7 @@ pub fn commit(a: HaltArbiter, v: View, committing: bool) -> HaltArbiter
     if committing {
         return HaltArbiter {
             pend_granted: false,
-            wake_tenure: tenure_if(drives(a, v), a.wake_tenure),
+            wake_tenure: armed_if(drives(a, v), a.wake_tenure, 36),
             park_waits_for_fetch: !(a.pend_from_arm | (v.cpu_halted | v.was_halted)),
             idle_claim: false,
             grant_counted: false,

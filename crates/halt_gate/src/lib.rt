@@ -73,6 +73,7 @@ pub fn start(d: VramDma, v: View) -> VramDma
     join_halt(judge_probation(observe(d, v), v), v)
 }
 
+// The speed comes beside the engine: it is the console's.
 #[tactic(auto, unfolding(fall_stages::specs::Fall::refilled_of))]
 pub fn refill(d: VramDma, double_speed: bool) -> VramDma
     ensures { result ≡ refilled_of double_speed d }

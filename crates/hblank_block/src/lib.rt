@@ -1,7 +1,7 @@
-// The block's part of each stage. A bool that says whether a step runs (`back`, `joins`, `takes`, `committing`, `seizes`) is no
-// closure: each step is a definition of the paper over its flag, with one equation for both cases, and the stage decides once, for the
-// arbiter too; a closure would hide the decision from the contract. `drop_if` and `take_if` are no twins: each is its own step, of other
-// fields.
+// The block's part of each stage. A bool that says whether a step runs (`clear`, `back`, `joins`, `none`, `takes`, `committing`,
+// `seizes`) is no closure: each step is a definition of the paper over its flag, with one equation for both cases, and the stage
+// decides once, for the arbiter too; a closure would hide the decision from the contract. `drop_if` and `take_if` are no twins: each is
+// its own step, of other fields.
 #![tactic(auto)]
 
 ghost use Rattle.std.specs.Prelude.{◌≡◌};
@@ -138,6 +138,7 @@ pub fn step_readiness(b: HblankBlock, double_speed: bool) -> HblankBlock
     }
 }
 
+// As the arbiter counts halted falls: either count is a sentence of the paper with a definition of its own, and one line long.
 fn seizure_count(seizes: bool, n: u8) -> u8
     ensures { result ≡ seizure_count seizes n }
 {

@@ -15,7 +15,7 @@ pub const VRAM: usize = 16384;
 
 pub const OAM: usize = 160;
 
-// Refusal 2 of a call that is lent all four slices, by their lengths.
+// Refusal 2 of a call that is lent all four slices, by their lengths alone, which come one by one as the slices do.
 #[tactic(auto, unfolding(crate::specs::Lengths::wrong_lengths))]
 pub fn wrong_lengths(cartridge: usize, wram: usize, vram: usize, oam: usize) -> bool
     ensures { result ≡ wrong_lengths cartridge wram vram oam }

@@ -1,4 +1,4 @@
-// Who has the shared bus (vram_dma.rs, `vram_dma_arbitrate_oam_bus`).
+// Who has the shared bus (vram_dma.rs, `vram_dma_arbitrate_oam_bus`). The speed comes beside the engine: it is the console's.
 #![tactic(auto)]
 
 ghost use Rattle.std.specs.Prelude.{◌≡◌};

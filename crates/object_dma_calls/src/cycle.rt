@@ -27,9 +27,8 @@ fn count_byte(o: ObjectDma) -> ObjectDma
     let counted = o.counted + 1;
     ObjectDma {
         running: counted < 160,
-        page: o.page,
         counted,
-        start_edge: o.start_edge,
+        ..o
     }
 }
 
@@ -80,6 +79,7 @@ fn take_byte(
     }
 }
 
+// Of this call's answer, as the bus call has one of its own: the two have other places beside the state.
 fn refused(state: Cgb, refusal: Refusal) -> Cycled
     ensures { result ≡ refused_cycle refusal state }
 {

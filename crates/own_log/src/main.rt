@@ -19,7 +19,8 @@ enum Failure {
     LogNotWritten,
 }
 
-// One read: the log of the records that are whole then is written, and the rest waits. Whether another may follow: not after the input's end.
+// One read: the log of the records that are whole then is written, and the rest waits. Output, state and buffers come one by one: each is borrowed
+// while the others are. Whether another may follow: not after the input's end.
 fn turn<R: Read, W: Write>(
     script: &mut Buffer<R, 65536>,
     output: &mut W,

@@ -1,4 +1,5 @@
-// The calls that are lent memory: what each said, a bus call's pairs with their causes and bytes, the byte of an M-cycle call, and the state after.
+// The calls that are lent memory: what each said, a bus call's pairs with their causes and bytes, the byte of an M-cycle call, and the state after. The slices
+// come one by one, as in `perform`, and the two forms of the bus call differ in what they are told.
 ghost use Rattle.std.specs.Prelude.{◌≡◌};
 ghost use Rattle.perform.specs.Perform.{WritePerformed, BusPerformed, CyclePerformed, read_performed};
 ghost use Rattle.perform.specs.Bussed.{bussed_of};

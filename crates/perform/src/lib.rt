@@ -1,5 +1,6 @@
 // Every call of the engine through one function: what a board, a C program or a comparison with the
-// original drives. Code and contracts are the engine's; here they are only gathered.
+// original drives. Code and contracts are the engine's; here they are only gathered. The slices come one by one: each call borrows those
+// that it looks at in its own way, and C hands them so.
 #![tactic(auto)]
 
 pub mod lent;

@@ -13,6 +13,7 @@ pub fn refused(number: u8) -> [u8; 24]
     out
 }
 
+// One literal in the layout's order, as the definition is one list: of copies into places each would need a law.
 pub fn encode(p: Performed) -> [u8; 24]
     ensures { result ≡ answer_bytes p }
 {

@@ -25,7 +25,7 @@ fn cycle(answer: u8) -> Option<Call>
     }
 }
 
-// The call that a record says, if it is one.
+// The call that a record says, if it is one. The kinds are numbers, as C writes them (include/cgb_vram_dma.h); calls.txt has them all.
 #[tactic(auto, unfolding(crate::specs::Record::call_of))]
 pub fn decode(bytes: [u8; 16]) -> Option<Call>
     ensures { result ≡ call_of bytes }

@@ -13,7 +13,7 @@ use console::Cgb;
 use console::refusal::Refusal;
 use map_write::WriteInput;
 
-// The tests in front of the address: 7, then 2.
+// The tests in front of the address: 7, then 2 of work RAM. Beside `all_lent` of answers: these calls are lent one slice of the four.
 #[tactic(auto, unfolding(console::specs::Reached::state_refusal))]
 fn lent(state: Cgb, wram: &[u8]) -> Result<(), Refusal>
     ensures { result ≡ answered (lent_refusal state (length wram.now)) tt }

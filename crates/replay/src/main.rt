@@ -23,7 +23,8 @@ struct Replay {
 }
 
 // The records of one part of the input, with their lines written: whether all of them were. A flag and no `?`: after a write that fails the
-// part's other lines are still tried.
+// part's other lines are still tried. The number goes on over the parts, so no `enumerate`; and output, replay and buffers come one by one, since a
+// text borrows `out` while a step borrows `wram`.
 fn feed<W: Write>(
     output: &mut W,
     replay: &mut Replay,

@@ -1,6 +1,6 @@
 // What a record does, and the numbers of its line.
 ghost use Rattle.std.specs.Prelude.{◌≡◌};
-ghost use Rattle.replay_step.specs.Step.{hands_pair, pair_line_of, told_pair, Steps};
+ghost use Rattle.replay_step.specs.Step.{hands_pair, line_of, pair_line_of, told_pair, Steps};
 
 use call::{Call, PlainCall};
 use console::Cgb;
@@ -47,24 +47,43 @@ fn handed(hands: bool, told: Told) -> Option<(BytePair, u16)>
     (hands & (came != 0)).then_some((BytePair { source, dest }, cause))
 }
 
-// The line of a call that may have told a pair, and the state.
+// The line of a call without a pair.
+#[tactic(auto, unfolding(crate::specs::Step::line_of))]
+fn quiet(refusal: u8, state: Cgb) -> Stepped
+    ensures { result ≡ line_of refusal state }
+{
+    Stepped {
+        line: Line {
+            refusal,
+            pairs: 0,
+            left: state.vram_dma.cursor.remaining,
+            ff55: hdma::hdma5::status_byte(state.vram_dma),
+            source: 0,
+            dest: 0,
+            cause: 0,
+        },
+        state: state.anew(),
+    }
+}
+
+// The same of a call that may have told a pair, with the number of its cause.
 #[tactic(auto, unfolding(crate::specs::Step::pair_line_of, crate::specs::Step::line_of))]
 fn lined(refusal: u8, answer: Option<(BytePair, u16)>, state: Cgb) -> Stepped
     ensures { result ≡ pair_line_of refusal answer state }
 {
-    let none = BytePair { source: 0, dest: 0 };
-    let (pair, cause) = answer.unwrap_or((none, 0));
+    let quiet = quiet(refusal, state);
+    let Some((pair, cause)) = answer else {
+        return quiet;
+    };
     Stepped {
         line: Line {
-            refusal,
-            pairs: u8::from(answer.is_some()),
-            left: state.vram_dma.cursor.remaining,
-            ff55: hdma::hdma5::status_byte(state.vram_dma),
+            pairs: 1,
             source: pair.source,
             dest: pair.dest,
             cause,
+            ..quiet.line
         },
-        state: state.anew(),
+        ..quiet
     }
 }
 

@@ -1,5 +1,5 @@
 // Text in a lent buffer: a character, characters, a decimal number, a byte in two capitals. What no longer fits is left out, so that
-// no method asks anything of its caller. The digits are made here: of `write!` to a lent slice std's contract says nothing of the bytes, and
+// no public method asks anything of its caller. The digits are made here: of `write!` to a lent slice std's contract says nothing of the bytes, and
 // to a writer of ours only where it answers Ok, which no contract says that it does.
 #![tactic(auto)]
 

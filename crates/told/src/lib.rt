@@ -20,7 +20,7 @@ pub struct Told {
     pub values: [u16; 4],
 }
 
-// What a call said and left. The arrays are a bus call's, its pairs' causes as numbers, and an M-cycle call's byte is the first: of
+// What a call said and left, in numbers as `Told` and for the same reason. The arrays are a bus call's, its pairs' causes as numbers, and an M-cycle call's byte is the first: of
 // another call they are 0.
 #[derive(Clone, Copy)]
 pub struct Performed {

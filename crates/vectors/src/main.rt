@@ -41,7 +41,7 @@ fn replay_all(rt: &HostRuntime) -> Tally {
     let mut tally = Tally::default();
     let mut input = rt.stdin();
     let mut lent = Lent::new();
-    for _ in 0..1_000_000_000_000u64 {
+    for _ in 0..u64::MAX {
         let Ok(vector) = Vector::read(&mut input) else {
             return tally;
         };
