@@ -3,6 +3,7 @@ use mathlib.Core.Path.{◌≡◌, refl}
 use mathlib.Core.Bool.{Bool, true, false, not, ◌||◌, true≢false}
 use lib.Dec.{eqb}
 use borrow.Author.Tests.{eqb-true, eq-eqb}
+use Rattle.console.proofs.Refusals.{numbered}
 use Rattle.console.specs.declared.Cgb.{Cgb}
 use Rattle.memory.specs.Lengths.{wrong_lengths}
 use Rattle.bus_calls.specs.BusCall.{Lengths, bus_refusal}
@@ -45,7 +46,7 @@ module _ (s : Cgb) (n : Lengths) where
   unfolding bus_refusal
   bus_refusals =
       record {
-        first_7 = λ seven. rw seven;
-        then_2 = λ reached other. rw (reached, some_wrong other);
+        first_7 = λ seven. numbered (rw seven);
+        then_2 = λ reached other. numbered (rw (reached, some_wrong other));
         accepted = λ reached k. rw (reached, right k);
       }

@@ -1,2 +1,3 @@
 pub mod Reached
 pub mod Refusals
+pub mod RefusalNumbers

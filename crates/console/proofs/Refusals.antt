@@ -7,7 +7,7 @@ use mathlib.Core.List.{List, [], ◌∷◌, ◌++◌}
 use lib.Dec.{eqb}
 use borrow.Author.Tests.{eq-eqb}
 use Rattle.std.proofs.Common.{Option, Some, None}
-use Rattle.console.specs.Refusals.{Reason, first_of, number_of, refusal_number}
+use Rattle.console.specs.Refusals.{Reason, first_of, number_of, refusal_number, Numbered}
 use Rattle.console.specs.declared.refusal.Refusal.{Refusal}
 use Rattle.console.specs.declared.refusal.Refusal.TheVariants.{Mode, Length, Phase, Address, Held, Record, State, Blackout, Unarmed, Deferred, Granted, Page}
 
@@ -33,6 +33,10 @@ some_number Page = refl
 
 pub not_zero : (r : Refusal) → refusal_number r ≡ 0 → ⊥
 not_zero r zero = absurd (false≢true (sym (some_number r) ∙ eq-eqb (refusal_number r) 0 zero))
+
+-- declined for a reason, and with its number
+pub numbered : {k : Option Refusal} {r : Refusal} → k ≡ Some r → Numbered k r (refusal_number r)
+numbered is = record { reason = is; number = ap number_of is }
 
 -- no number: accepted
 pub number_none : (k : Option Refusal) → number_of k ≡ 0 → k ≡ None

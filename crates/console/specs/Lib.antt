@@ -3,3 +3,4 @@ pub mod Set
 pub mod PowerOn
 pub mod Refusals
 pub mod Reached
+pub mod RefusalNumbers

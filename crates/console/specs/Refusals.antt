@@ -1,6 +1,6 @@
 -- Declined calls (document 01, "Declined by input", "Declined by state"): each gives the number of the first reason
 -- that holds, in the paper's order. An accepted call has no number: 0 here.
-use Rattle.std.specs.Prelude.{ℕ, Bool, cond, List, [], ◌∷◌, Option, Some, None, Result, Ok, Err}
+use Rattle.std.specs.Prelude.{ℕ, ◌≡◌, Bool, cond, List, [], ◌∷◌, Option, Some, None, Result, Ok, Err}
 use Rattle.console.specs.declared.refusal.Refusal.{Refusal}
 use Rattle.console.specs.declared.refusal.Refusal.TheVariants.{Mode, Length, Phase, Address, Held, Record, State, Blackout, Unarmed, Deferred, Granted, Page}
 
@@ -37,6 +37,12 @@ first_of (r ∷ rs) = cond r.holds (Some r.refusal) (first_of rs)
 abbrev pub number_of : Option Refusal → ℕ
 number_of None = 0
 number_of (Some r) = refusal_number r
+
+-- a call is declined for this reason, and with this number: the laws on the order of refusals say both, so that the papers' numbers
+-- stand once more beside `refusal_number`
+pub record Numbered (k : Option Refusal) (r : Refusal) (n : ℕ) : Type 0 where
+  pub reason : k ≡ Some r
+  pub number : number_of k ≡ n
 
 -- what a call answers: its value where it is not declined
 abbrev pub answered : {A : Type 0} → Option Refusal → A → Result A Refusal

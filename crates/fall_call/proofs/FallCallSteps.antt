@@ -4,6 +4,7 @@ use mathlib.Core.Path.{◌≡◌, refl, sym, ap}
 use mathlib.Core.Bool.{Bool, true, false}
 use borrow.Author.Tests.{lt-ltb, le-ltb}
 use Rattle.console.specs.Reached.{unreached}
+use Rattle.console.proofs.Refusals.{numbered}
 use Rattle.console.specs.declared.Cgb.{Cgb}
 use Rattle.console.specs.declared.VramDmaClaim.{VramDmaClaim}
 use Rattle.fall_stages.specs.declared.FallInput.{FallInput}
@@ -16,9 +17,9 @@ pub fall_refusals : (s : Cgb) (i : FallInput) → FallRefusals s i
 unfolding fall_refusal
 fall_refusals s i =
     record {
-      first_7 = λ seven. rw seven;
-      then_1 = λ reached high. rw (reached, lt-ltb 3 i.mode high);
-      then_14 = λ reached low over. rw (reached, le-ltb 3 i.mode low, over);
+      first_7 = λ seven. numbered (rw seven);
+      then_1 = λ reached high. numbered (rw (reached, lt-ltb 3 i.mode high));
+      then_14 = λ reached low over. numbered (rw (reached, le-ltb 3 i.mode low, over));
       accepted = λ reached low fine. rw (reached, le-ltb 3 i.mode low, fine);
     }
 
@@ -26,13 +27,13 @@ module _ (s : Cgb) (i : FallInput) (reached : unreached s ≡ false) (low : i.mo
   leaves : (over : Bool) → (fallen s i).refused ≡ over → (fall_call_of s i).state.vram_dma ≡ (fallen s i).dma
   unfolding fall_call_of fallen_state
   leaves true e =
-      rw ((fall_refusals s i).then_14 reached low e) (sym ((fall_steps i s.double_speed s.vram_dma).refused_keeps e).0)
+      rw (((fall_refusals s i).then_14 reached low e).reason) (sym ((fall_steps i s.double_speed s.vram_dma).refused_keeps e).0)
   leaves false e = rw ((fall_refusals s i).accepted reached low e)
 
   tells : (over : Bool) → (fallen s i).refused ≡ over → tells_commit (fall_call_of s i).answer ≡ (fallen s i).claim.committed
   unfolding fall_call_of
   tells true e =
-      rw ((fall_refusals s i).then_14 reached low e)
+      rw (((fall_refusals s i).then_14 reached low e).reason)
       (sym (ap (λ (c : VramDmaClaim). c.committed) ((fall_steps i s.double_speed s.vram_dma).refused_keeps e).1))
   tells false e = rw ((fall_refusals s i).accepted reached low e)
 

@@ -1,8 +1,9 @@
 -- What is shown of the fall as a call (document 01, "Declined by input", "Declined by state": "Order: 7 first wherever a state is
--- given; .. a fall 1, 14"): each refusal exactly where its reason holds and none in front of it, what the call leaves and what it
+-- given; .. a fall 1, 14"): each number exactly where its reason holds and none in front of it, what the call leaves and what it
 -- tells, declined or not.
 use Rattle.std.specs.Prelude.{◌<◌, ◌≤◌, ◌≡◌, true, false, Some, None, Ok, Err}
 use Rattle.console.specs.Reached.{unreached}
+use Rattle.console.specs.Refusals.{Numbered}
 use Rattle.console.specs.declared.Cgb.{Cgb}
 use Rattle.console.specs.declared.refusal.Refusal.{Refusal}
 use Rattle.console.specs.declared.refusal.Refusal.TheVariants.{State, Mode, Granted}
@@ -12,9 +13,9 @@ use Rattle.fall_call.specs.Fall.{fallen, fall_refusal, fallen_state, fall_call_o
 
 -- `FallSteps` tells exactly when a fall overflows
 pub record FallRefusals (s : Cgb) (i : FallInput) : Type 0 where
-  pub first_7 : unreached s ≡ true → fall_refusal s i ≡ Some State
-  pub then_1 : unreached s ≡ false → 3 < i.mode → fall_refusal s i ≡ Some Mode
-  pub then_14 : unreached s ≡ false → i.mode ≤ 3 → (fallen s i).refused ≡ true → fall_refusal s i ≡ Some Granted
+  pub first_7 : unreached s ≡ true → Numbered (fall_refusal s i) State 7
+  pub then_1 : unreached s ≡ false → 3 < i.mode → Numbered (fall_refusal s i) Mode 1
+  pub then_14 : unreached s ≡ false → i.mode ≤ 3 → (fallen s i).refused ≡ true → Numbered (fall_refusal s i) Granted 14
   pub accepted : unreached s ≡ false → i.mode ≤ 3 → (fallen s i).refused ≡ false → fall_refusal s i ≡ None
 
 pub record FallCallSteps (s : Cgb) (i : FallInput) : Type 0 where

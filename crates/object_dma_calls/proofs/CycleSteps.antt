@@ -101,7 +101,7 @@ module _ (s : Cgb) (cartridge wram vram oam : List ℕ) (zero : cycle_refusal s 
 
 object_dma_query : (s : Cgb) → ObjectDmaQuery s
 unfolding asked
-object_dma_query s = record { tells = λ reached. rw (state_passes s reached); declined = λ seven. rw (state_7 s seven) }
+object_dma_query s = record { tells = λ reached. rw (state_passes s reached); declined = λ seven. (rw (state_7 s seven), refl) }
 
 pub cycle_laws : CycleLaws
 cycle_laws = record { refusals = cycle_refusals; accepted = cycle_steps; query = object_dma_query; within = cycle_within }

@@ -2,6 +2,7 @@
 -- and by arbitration's answer, the whole outcome.
 use Rattle.std.specs.Prelude.{ℕ, ◌+◌, ◌*◌, ◌≡◌, true, false, ◌&&◌, List, ltb, set, Some, None, Ok, Err}
 use Rattle.console.specs.Reached.{unreached, ObjectDmaWithin}
+use Rattle.console.specs.Refusals.{refusal_number, Numbered}
 use Rattle.console.specs.Set.{with_object_dma}
 use Rattle.console.specs.declared.Cgb.{Cgb}
 use Rattle.console.specs.declared.object.ObjectDma.{ObjectDma}
@@ -20,9 +21,10 @@ use Rattle.object_dma_calls.specs.Query.{object_dma_told}
 
 -- 7, then 2 of all four slices, whether it runs or not; a declined call leaves state and OAM
 pub record CycleRefusals (s : Cgb) (a : Arbitration) (cartridge wram vram oam : List ℕ) : Type 0 where
-  pub first_7 : unreached s ≡ true → cycle_refusal s (lengths_of cartridge wram vram oam) ≡ Some State
+  pub first_7 : unreached s ≡ true → Numbered (cycle_refusal s (lengths_of cartridge wram vram oam)) State 7
   pub then_2 :
-      unreached s ≡ false → (WholeSlices (lengths_of cartridge wram vram oam) → ⊥) → cycle_refusal s (lengths_of cartridge wram vram oam) ≡ Some Length
+      unreached s ≡ false → (WholeSlices (lengths_of cartridge wram vram oam) → ⊥) →
+      Numbered (cycle_refusal s (lengths_of cartridge wram vram oam)) Length 2
   pub accepted : unreached s ≡ false → WholeSlices (lengths_of cartridge wram vram oam) → cycle_refusal s (lengths_of cartridge wram vram oam) ≡ None
   pub declined :
       (r : Refusal) → cycle_refusal s (lengths_of cartridge wram vram oam) ≡ Some r →
@@ -70,7 +72,7 @@ pub record ObjectDmaQuery (s : Cgb) : Type 0 where
         counted = s.object_dma.counted;
         page = s.object_dma.page;
       })
-  pub declined : unreached s ≡ true → asked s (object_dma_told s) ≡ Err State
+  pub declined : unreached s ≡ true → (asked s (object_dma_told s) ≡ Err State) × (refusal_number State ≡ 7)
 
 pub record CycleLaws : Type 0 where
   pub refusals : (s : Cgb) (a : Arbitration) (cartridge wram vram oam : List ℕ) → CycleRefusals s a cartridge wram vram oam

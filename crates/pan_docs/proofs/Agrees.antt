@@ -7,17 +7,17 @@ use lib.Dec.{ltb}
 use mathlib.Core.List.{List, [], ◌∷◌}
 use lib.ListN as list
 use borrow.Author.Tests.{lt-ltb, le-ltb, not-false}
-use Rattle.std.proofs.Common.{Some, None, Ok}
+use Rattle.std.proofs.Common.{None, Ok}
 use Rattle.console.specs.Modes.{is_hblank}
 use Rattle.console.specs.PowerOn.{power_on_of, dma_at_rest}
 use Rattle.console.specs.Reached.{unreached, Reached}
 use Rattle.console.specs.declared.Cgb.{Cgb}
 use Rattle.console.specs.declared.vram_dma.TransferMode.TheVariants as mode
 use Rattle.console.specs.Set.{with_ff_72, with_ff_73, with_ff_74, with_ff_75, with_svbk}
-use Rattle.console.specs.Refusals.{Reason, ◌⇒◌, number_of}
+use Rattle.console.specs.Refusals.{Reason, ◌⇒◌, number_of, Numbered}
 use Rattle.console.specs.declared.refusal.Refusal.TheVariants.{Phase, Held, State, Blackout, Unarmed, Deferred, Page}
 use Rattle.console.proofs.Reached.{reached, passes, reached_with_svbk}
-use Rattle.console.proofs.Refusals.{none_holds}
+use Rattle.console.proofs.Refusals.{none_holds, numbered}
 use Rattle.hdma.specs.Hdma5.{hdma5_written, armed_of, cancelled_of, general_started, status_byte, visible}
 use Rattle.transfer.specs.Questions.{write_address, seizes_bus}
 use Rattle.registers.specs.Map.{place_of, readable, writable, banked_ram, locks_at}
@@ -231,8 +231,8 @@ dma_starts s p lcd edge reached low =
     ap (λ (r : Outcome (Unit {0})). r.state.object_dma) (write_accepted s reached 0xFF46 (input p lcd edge) refl (le-ltb 0xDF p low))
     ∙ ap (λ (r : MapWritten). r.state.object_dma) (map_write_steps.dma s (input p lcd edge)).starts
 
-dma_above : (s : Cgb) (p : ℕ) → unreached s ≡ false → pan.last_page < p → write_refusal s p wram_length 0xFF46 ≡ Some Page
-dma_above s p reached high = at_21 s p wram_length 0xFF46 reached refl (lt-ltb 0xDF p high)
+dma_above : (s : Cgb) (p : ℕ) → unreached s ≡ false → pan.last_page < p → Numbered (write_refusal s p wram_length 0xFF46) Page 21
+dma_above s p reached high = numbered (at_21 s p wram_length 0xFF46 reached refl (lt-ltb 0xDF p high))
 
 pub agreement : Agreement
 agreement =
@@ -308,7 +308,7 @@ difference =
       time_carried = (refl, refl, refl, refl);
       halt_counts = (λ wram whole. rw whole, refl);
       switch_length = (refl, refl);
-      switch_held = refl;
+      switch_held = (refl, refl);
       vbk_unlocked = λ wram whole. rw whole;
       svbk_read_back = λ wram whole. rw whole;
       key0_reads = λ wram whole. rw whole;

@@ -1,11 +1,12 @@
 -- Where the port's calls agree with Pan Docs, fact by fact (`Agreement`), and where they do not (`Difference`): of the rows
 -- of docs/DIFFERENCES.md, part II, those whose run needs no bus call; the other rows name what holds them. The calls are
 -- the engine's, on any state that passes refusal 7, in CGB mode unless said otherwise.
-use Rattle.std.specs.Prelude.{ℕ, ◌+◌, ◌-◌, ◌*◌, ◌<◌, ◌≤◌, ◌≡◌, Bool, true, false, not, List, Some, None, Ok, Err}
+use Rattle.std.specs.Prelude.{ℕ, ◌+◌, ◌-◌, ◌*◌, ◌<◌, ◌≤◌, ◌≡◌, Bool, true, false, not, List, None, Ok, Err}
 use Rattle.std.proofs.Math.ListN as list
 use Rattle.console.specs.Modes.{is_hblank}
 use Rattle.console.specs.PowerOn.{power_on_of}
 use Rattle.console.specs.Reached.{unreached}
+use Rattle.console.specs.Refusals.{refusal_number, Numbered}
 use Rattle.console.specs.declared.Cgb.{Cgb}
 use Rattle.console.specs.declared.object.ObjectDma.{ObjectDma}
 use Rattle.console.specs.declared.refusal.Refusal.TheVariants.{Held, Page}
@@ -103,7 +104,7 @@ pub record Agreement : Type 0 where
   pub dma_starts :
       (s : Cgb) (p : ℕ) (lcd : Bool) (edge : ℕ) → unreached s ≡ false → p ≤ pan.last_page →
       (state_after_write 0xFF46 p lcd edge s).object_dma ≡ transferring p 0 edge
-  pub dma_above : (s : Cgb) (p : ℕ) → unreached s ≡ false → pan.last_page < p → write_refusal s p wram_length 0xFF46 ≡ Some Page
+  pub dma_above : (s : Cgb) (p : ℕ) → unreached s ≡ false → pan.last_page < p → Numbered (write_refusal s p wram_length 0xFF46) Page 21
   -- it runs for 160 bytes, the one with the number k from its place of the page to its place in OAM (`Copies` of `object_dma_run` tells of all)
   pub dma_moves :
       (p k edge : ℕ) → k < pan.page_bytes →
@@ -170,7 +171,7 @@ pub record Difference : Type 0 where
       ((switch_call_of (state_after_write 0xFF4D 0x01 true 0 (power_on_of false)) (attempt false)).state.speed_switch_blackout ≡ 131077) ×
       (pan.switch_mcycles ≡ 2050)
   -- a switch is declined under hold, where Pan Docs has a STOP with bit 0 set switch
-  pub switch_held : (switch_call_of (state_after_write 0xFF4D 0x01 true 0 (power_on_of false)) (attempt true)).answer ≡ Err Held
+  pub switch_held : ((switch_call_of (state_after_write 0xFF4D 0x01 true 0 (power_on_of false)) (attempt true)).answer ≡ Err Held) × (refusal_number Held ≡ 5)
   -- FF4F is not locked under compat, where a locked register reads FF
   pub vbk_unlocked : Reads (power_on_of true) 0xFF4F 0xFE
   -- FF70 reads back the written 0, and FF4C reads 00, of which Pan Docs says nothing

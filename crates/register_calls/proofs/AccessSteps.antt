@@ -9,6 +9,7 @@ use borrow.Author.Tests.{eq-eqb, ne_eqb, le-ltb, lt-ltb}
 use Rattle.std.proofs.Common.{Option, Some, None, Ok}
 use Rattle.console.specs.Reached.{unreached}
 use Rattle.console.specs.Refusals.{Reason, first_of}
+use Rattle.console.proofs.Refusals.{numbered}
 use Rattle.console.specs.declared.Cgb.{Cgb}
 use Rattle.console.specs.declared.refusal.Refusal.{Refusal}
 use Rattle.console.specs.declared.refusal.Refusal.TheVariants.{State, Length, Address}
@@ -28,16 +29,16 @@ refusals :
 unfolding access_refusal
 refusals map Map more s n a mapped =
     record {
-      first_7 = λ seven. rw seven;
-      then_2 = λ reached other. rw (reached, ne_eqb n 32768 other);
-      then_4 = λ reached whole off. rw (reached, eq-eqb n 32768 whole, (when_false (map (place_of a)) mapped).1 off);
+      first_7 = λ seven. numbered (rw seven);
+      then_2 = λ reached other. numbered (rw (reached, ne_eqb n 32768 other));
+      then_4 = λ reached whole off. numbered (rw (reached, eq-eqb n 32768 whole, (when_false (map (place_of a)) mapped).1 off));
       otherwise = λ reached whole here. rw (reached, eq-eqb n 32768 whole, mapped.1 here);
     }
 
 pages : (v a : ℕ) → PageRefusals (page_refusal v a) v a
 pages v a =
     record {
-      above = λ at high. rw (eq-eqb a 0xFF46 at, lt-ltb 0xDF v high);
+      above = λ at high. numbered (rw (eq-eqb a 0xFF46 at, lt-ltb 0xDF v high));
       page = λ at low. rw (eq-eqb a 0xFF46 at, le-ltb 0xDF v low);
       elsewhere = λ other. rw (ne_eqb a 0xFF46 other);
     }

@@ -1,7 +1,8 @@
--- What is shown of reads and writes as calls (document 01, section 1): when they are declined and with which refusal, and that
+-- What is shown of reads and writes as calls (document 01, section 1): when they are declined and with which number, and that
 -- an accepted one gives and leaves what the map does (`MapReads` and `MapWrites` tell it by address).
 use Rattle.std.specs.Prelude.{ℕ, ◌≤◌, ◌<◌, ◌≡◌, true, false, List, ◌↔◌, Option, Some, None, Ok, Err, length}
 use Rattle.console.specs.Reached.{unreached}
+use Rattle.console.specs.Refusals.{Numbered}
 use Rattle.console.specs.declared.Cgb.{Cgb}
 use Rattle.console.specs.declared.refusal.Refusal.{Refusal}
 use Rattle.console.specs.declared.refusal.Refusal.TheVariants.{State, Length, Address, Page}
@@ -13,14 +14,14 @@ use Rattle.register_calls.specs.Access.{read_refusal, write_refusal, page_refusa
 
 -- "Order: 7 first wherever a state is given; a read or write 2, 4": n bytes of work RAM are lent; `else` is what comes after 4
 pub record AccessRefusals (Map : ℕ → Type 0) (refusal : Option Refusal) (s : Cgb) (n a : ℕ) (else : Option Refusal) : Type 0 where
-  pub first_7 : unreached s ≡ true → refusal ≡ Some State
-  pub then_2 : unreached s ≡ false → (n ≡ 32768 → ⊥) → refusal ≡ Some Length
-  pub then_4 : unreached s ≡ false → n ≡ 32768 → (Map a → ⊥) → refusal ≡ Some Address
+  pub first_7 : unreached s ≡ true → Numbered refusal State 7
+  pub then_2 : unreached s ≡ false → (n ≡ 32768 → ⊥) → Numbered refusal Length 2
+  pub then_4 : unreached s ≡ false → n ≡ 32768 → (Map a → ⊥) → Numbered refusal Address 4
   pub otherwise : unreached s ≡ false → n ≡ 32768 → Map a → refusal ≡ else
 
 -- "21, page above DFh, tested after 4" (document 02, A1): at FF46 alone, by the value v
 pub record PageRefusals (refusal : Option Refusal) (v a : ℕ) : Type 0 where
-  pub above : a ≡ 0xFF46 → 0xDF < v → refusal ≡ Some Page
+  pub above : a ≡ 0xFF46 → 0xDF < v → Numbered refusal Page 21
   pub page : a ≡ 0xFF46 → v ≤ 0xDF → refusal ≡ None
   pub elsewhere : (a ≡ 0xFF46 → ⊥) → refusal ≡ None
 

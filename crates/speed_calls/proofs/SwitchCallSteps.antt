@@ -5,6 +5,7 @@ use mathlib.Core.Bool.{true, false}
 use lib.Dec.{ltb}
 use borrow.Author.Tests.{lt-ltb, le-ltb}
 use Rattle.std.proofs.Common.{Some, None}
+use Rattle.console.proofs.Refusals.{numbered}
 use Rattle.console.specs.declared.Cgb.{Cgb}
 use Rattle.console.specs.declared.refusal.Refusal.TheVariants.{Deferred}
 use Rattle.transfer.proofs.Conditions.{when_false}
@@ -41,12 +42,12 @@ module _ (s : Cgb) (i : SwitchInput) where
   unfolding switch_refusal defers
   switch_refusals =
       record {
-        first_7 = λ seven. rw seven;
-        then_3 = λ reached high. rw (reached, lt-ltb 4 i.dot_phase high);
-        then_5 = λ reached low held. rw (reached, le-ltb 4 i.dot_phase low, held);
-        then_11 = λ a running. rw (a.reached, phase a, a.unheld, lt-ltb 0 s.speed_switch_blackout running);
-        then_12 = λ a none unarmed. rw (a.reached, phase a, a.unheld, calm none, unarmed);
-        then_13 = λ a none armed double k. deferred a none armed (rw (double, ready k));
+        first_7 = λ seven. numbered (rw seven);
+        then_3 = λ reached high. numbered (rw (reached, lt-ltb 4 i.dot_phase high));
+        then_5 = λ reached low held. numbered (rw (reached, le-ltb 4 i.dot_phase low, held));
+        then_11 = λ a running. numbered (rw (a.reached, phase a, a.unheld, lt-ltb 0 s.speed_switch_blackout running));
+        then_12 = λ a none unarmed. numbered (rw (a.reached, phase a, a.unheld, calm none, unarmed));
+        then_13 = λ a none armed double k. numbered (deferred a none armed (rw (double, ready k)));
         upward = λ a none armed single. free a none armed (rw single);
         downward = λ a none armed double k. free a none armed (rw (double, not_ready k));
       }
