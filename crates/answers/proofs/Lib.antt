@@ -1,3 +1,4 @@
 pub mod Numbers
 pub mod Queries
 pub mod CauseNumbers
+pub mod ValuesTold

@@ -1,3 +1,4 @@
 pub mod Answers
 pub mod Queries
 pub mod CauseNumbers
+pub mod ValuesTold

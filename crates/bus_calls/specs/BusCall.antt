@@ -15,7 +15,7 @@ use Rattle.bus.specs.declared.commit.BusInput.{BusInput}
 use Rattle.transfer.specs.declared.pair.BytePair.{BytePair}
 use Rattle.transfer.specs.declared.pair.Cause.{Cause}
 use Rattle.transfer.specs.declared.pair.Cause.TheVariants.{GoingOn}
-use Rattle.answers.specs.Answers.{Said, saying, moved_values, cause_numbers, bus_outcome_says}
+use Rattle.answers.specs.Answers.{Said, saying, bit_of, cause_numbers, bus_outcome_says}
 use Rattle.answers.specs.declared.Moved.{Moved}
 use Rattle.answers.specs.declared.BusOutcome.{BusOutcome}
 
@@ -60,7 +60,7 @@ unfoldable pub bus_state : Cgb → BusInput → Lengths → Cgb
 bus_state s i n = kept (bus_refusal s n) s (with_vram_dma (taken_in s i).dma s)
 
 unfoldable pub bus_said : Cgb → BusInput → Lengths → Said
-bus_said s i n = saying (bus_refusal s n) (moved_values (moved_by s i))
+bus_said s i n = saying (bus_refusal s n) (length (taken_in s i).pairs ∷ bit_of (taken_in s i).setup ∷ [])
 
 -- the bytes of the pairs
 unfoldable pub bus_bytes : Cgb → BusInput → Lengths → List ℕ → List ℕ → List ℕ

@@ -12,7 +12,7 @@ use Rattle.registers.specs.Map.{Place, place_of, readable, writable}
 use Rattle.map_read.specs.Read.{map_byte}
 use Rattle.map_write.specs.Write.{map_write_of, wram_after}
 use Rattle.map_write.specs.declared.WriteInput.{WriteInput}
-use Rattle.answers.specs.Answers.{Said, saying, outcome, outcome_says, byte_values, done_values}
+use Rattle.answers.specs.Answers.{Said, saying, outcome, outcome_says, done_values}
 use Rattle.answers.specs.declared.Outcome.{Outcome}
 
 -- why a call is declined in front of its address, with n bytes of work RAM
@@ -44,7 +44,7 @@ unfoldable pub read_of : Cgb → List ℕ → ℕ → Result ℕ Refusal
 read_of s wram a = answered (read_refusal s (length wram) a) (map_byte s wram (place_of a))
 
 unfoldable pub read_said : Cgb → List ℕ → ℕ → Said
-read_said s wram a = saying (read_refusal s (length wram) a) (byte_values (map_byte s wram (place_of a)))
+read_said s wram a = saying (read_refusal s (length wram) a) (map_byte s wram (place_of a) ∷ [])
 
 -- answer and next state
 unfoldable pub write_of : Cgb → WriteInput → ℕ → ℕ → Outcome (Unit {0})

@@ -12,7 +12,7 @@ use Rattle.cut.specs.Cut.{ready_block}
 use Rattle.cut.specs.declared.SwitchOutcome.{SwitchOutcome}
 use Rattle.speed_switch.specs.Switch.{switched_of}
 use Rattle.speed_switch.specs.declared.switch.SwitchInput.{SwitchInput}
-use Rattle.answers.specs.Answers.{Said, saying, outcome, flag_values, switch_values}
+use Rattle.answers.specs.Answers.{Said, saying, outcome, bit_of, switch_values}
 use Rattle.answers.specs.declared.Outcome.{Outcome}
 
 -- 13: "downward with a ready block"
@@ -43,10 +43,10 @@ unfoldable pub blackout_call_of : Cgb → ℕ → Outcome Bool
 blackout_call_of s elapsed = flagged_of s (drained_of elapsed s)
 
 unfoldable pub blackout_said : Cgb → ℕ → Said
-blackout_said s elapsed = saying (state_refusal s) (flag_values (drained_of elapsed s).flag)
+blackout_said s elapsed = saying (state_refusal s) (bit_of (drained_of elapsed s).flag ∷ [])
 
 unfoldable pub wake_call_of : Cgb → Bool → Outcome Bool
 wake_call_of s boundary = flagged_of s (woken_of boundary s)
 
 unfoldable pub wake_said : Cgb → Bool → Said
-wake_said s boundary = saying (state_refusal s) (flag_values (woken_of boundary s).flag)
+wake_said s boundary = saying (state_refusal s) (bit_of (woken_of boundary s).flag ∷ [])
