@@ -3,9 +3,11 @@
 #![tactic(auto)]
 
 pub mod argument;
+mod lent;
 
 ghost use Rattle.std.specs.Prelude.{◌+◌, ◌-◌, ◌<◌, ◌≤◌, ◌≡◌, [], false, length, take, drop, IfOk, MatchResult};
 
+pub use lent::{Filled, Refilled, fewer, fill, flush, refill, to_front};
 use std::io;
 use std::io::Read;
 use std::marker::Model;
@@ -83,14 +85,4 @@ impl<R: Read, const N: usize> Buffer<R, N> {
         }
         Ok(self.read()? != 0)
     }
-}
-
-// The bytes from one place up to another, moved to the front: how many they are.
-fn to_front(buf: &mut [u8], from: usize, stop: usize) -> usize
-    requires { (from ≤ stop) × (stop ≤ length buf.old) }
-    ensures count { result ≡ stop - from }
-    ensures moved { take result buf.new ≡ take result (drop from buf.old) }
-{
-    buf.copy_within(from..stop, 0);
-    stop - from
 }
