@@ -7,7 +7,7 @@ use native.Mathlib.Omega.{arith}
 use Rattle.std.proofs.lemmas.Bool.{cases_lt}
 use lib.ListN.{length, set, length-append, length-set}
 use lib.Seq.{sets, set_out, length-sets, sets-eq}
-use Rattle.text.specs.Text.{past, Pushed, Fitting}
+use Rattle.text.specs.Text.{past, Put, Pushed, Fitting}
 use Rattle.text.specs.declared.Text.{Text}
 
 -- past the end nothing is stored
@@ -44,24 +44,30 @@ joined : (l : List ℕ) (at : ℕ) (xs ys : List ℕ) → Joined l at xs ys
 joined l at [] ys = rw (past_none (length l) at)
 joined l at (x ∷ xs) ys = join_step l at x xs ys (joined (set l at x) (suc at) xs ys)
 
--- a text, and then another behind it
-pub then : {a : Text} {xs : List ℕ} {b : Text} {ys : List ℕ} {c : Text} → Pushed a xs b → Pushed b ys c → Pushed a (xs ++ ys) c
-then {a} {xs} {b} {ys} {c} p q =
-    let l : List ℕ = a.out.now in
+pub nothing : (l : List ℕ) (at : ℕ) → Put l at [] at l
+nothing l at = record { place = sym (past_none (length l) at); bytes = refl }
+
+-- a text, and then another behind it: in a buffer that is any list, and of a `Text`
+pub put_then :
+    {l : List ℕ} {at : ℕ} {xs : List ℕ} {r : ℕ} {m ys : List ℕ} {s : ℕ} {k : List ℕ} → Put l at xs r m → Put m r ys s k →
+    Put l at (xs ++ ys) s k
+put_then {l} {at} {xs} {r} {m} {ys} {s} {k} p q =
     record {
-      buffer = q.buffer ∙ p.buffer;
-      put =
-          record {
-            place =
-                q.put.place
-                ∙ rw (p.put.bytes, length-sets l a.at xs, p.put.place, past_past (length l) a.at (length xs) (length ys), length-append xs ys);
-            bytes = q.put.bytes ∙ rw (p.put.bytes, p.put.place) (joined l a.at xs ys);
-          };
+      place =
+          q.place
+          ∙ rw (p.bytes, length-sets l at xs, p.place, past_past (length l) at (length xs) (length ys), length-append xs ys);
+      bytes = q.bytes ∙ rw (p.bytes, p.place) (joined l at xs ys);
     }
 
+pub then : {a : Text} {xs : List ℕ} {b : Text} {ys : List ℕ} {c : Text} → Pushed a xs b → Pushed b ys c → Pushed a (xs ++ ys) c
+then p q = record { buffer = q.buffer ∙ p.buffer; put = put_then p.put q.put }
+
 -- the same text in other words
+pub put_reworded : {l : List ℕ} {at : ℕ} {xs ys : List ℕ} {r : ℕ} {m : List ℕ} → xs ≡ ys → Put l at xs r m → Put l at ys r m
+put_reworded {l} {at} {xs} {ys} {r} {m} e p = subst (λ (text : List ℕ). Put l at text r m) e p
+
 pub reworded : {a : Text} {xs ys : List ℕ} {b : Text} → xs ≡ ys → Pushed a xs b → Pushed a ys b
-reworded {a} {xs} {ys} {b} e p = subst (λ (text : List ℕ). Pushed a text b) e p
+reworded e p = record { buffer = p.buffer; put = put_reworded e p.put }
 
 within_size : (size at n : ℕ) → at + n ≤ size → past size at n ≡ at + n
 within_size size at n h = omega arith
