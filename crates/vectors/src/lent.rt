@@ -2,6 +2,7 @@
 // side has, so that a vector names only the bytes that a call changed.
 use crate::vector::Vector;
 use memory::{byte_at, put_at};
+use std::array;
 
 // Each with a byte more than a call takes, so that a slice can be too long. Not one struct with the cases' `Memory`, whose lengths and methods
 // are others: by four const parameters, with a trait for the methods of each side, it would be longer than the two.
@@ -34,22 +35,35 @@ impl Slice {
     }
 }
 
+// The first of each 256 bytes, from which they count up.
+fn first(slice: Slice, seed: u8, run: usize) -> u8 {
+    ((run % 256 * 7 + slice as usize * 85 + usize::from(seed)) % 256) as u8
+}
+
 fn filled(slice: Slice, seed: u8, index: usize) -> u8 {
-    let of_slice = slice as usize * 85 + usize::from(seed);
-    ((index % 256 + index / 256 % 256 * 7 + of_slice) % 256) as u8
+    first(slice, seed, index / 256).wrapping_add((index % 256) as u8)
+}
+
+// Two times 0 to 255: 256 bytes in a row, from any on, are what a memory holds there. Copied and compared in runs, a memory takes a
+// fraction of the time that it takes byte by byte.
+fn counted_up() -> [u8; 512] {
+    array::from_fn(|i| (i % 256) as u8)
 }
 
 fn fill(memory: &mut [u8], slice: Slice, seed: u8) {
-    for (i, byte) in memory.iter_mut().enumerate() {
-        *byte = filled(slice, seed, i);
+    let counted_up = counted_up();
+    for (run, bytes) in memory.chunks_mut(256).enumerate() {
+        let from = usize::from(first(slice, seed, run));
+        bytes.copy_from_slice(&counted_up[from..from + bytes.len()]);
     }
 }
 
 fn unchanged(memory: &[u8], slice: Slice, seed: u8) -> bool {
-    memory
-        .iter()
-        .enumerate()
-        .all(|(i, byte)| *byte == filled(slice, seed, i))
+    let counted_up = counted_up();
+    memory.chunks(256).enumerate().all(|(run, bytes)| {
+        let from = usize::from(first(slice, seed, run));
+        bytes == &counted_up[from..from + bytes.len()]
+    })
 }
 
 // Every byte is as filled, but for those that the vector names.

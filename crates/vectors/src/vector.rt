@@ -56,7 +56,13 @@ fn up_to(limit: usize, length: u32) -> usize
 }
 
 impl Vector {
+    // In one read, since standard input has no buffer: place by place it takes twelve, and longer than all else.
     pub fn read(input: &mut impl Read) -> io::Result<Self> {
+        let vector: [u8; 568] = bytes(input)?;
+        Self::of(&mut &vector[..])
+    }
+
+    fn of(input: &mut impl Read) -> io::Result<Self> {
         Ok(Vector {
             call: bytes(input)?,
             lengths: [
